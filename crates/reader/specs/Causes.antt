@@ -1,0 +1,89 @@
+-- Why a family file is refused: causes 1 to 10, each over its whole input, in the order in which they are tried.
+use Prim.Native.Nat.{ℕ, _+_, _*_, _-_}
+use mathlib.Core.Bool.{Bool, not, cond, _&&_, _||_}
+use mathlib.Core.List.{List, [], _∷_, _++_}
+use mathlib.Core.Path.{_≡_}
+use lib.ListN.{length, getD, take, drop}
+use lib.Dec.{leb, ltb, eqb}
+use Rattle.reader.specs.Lists.{sum, sameList, someBelow, countBelow}
+use Rattle.reader.specs.Bytes.{numberAt}
+use Rattle.reader.specs.Family.{Region, Family, leaves, regionCount, region, familyOf, mark, lengthsOffset, regionsOffset, totalLength}
+use Rattle.reader.specs.Nesting.{before, crossing, inside}
+
+-- under 16 bytes, or another mark
+unfoldable pub cause1 : List ℕ → Bool
+cause1 s = ltb (length s) 16 || not (sameList (take 4 s) mark)
+
+-- m is 0 or over 4,096
+unfoldable pub cause2 : Family → Bool
+cause2 F = eqb (F .peptides) 0 || ltb 4096 (F .peptides)
+
+-- N is 0 or over m
+unfoldable pub cause3 : Family → Bool
+cause3 F = eqb (leaves F) 0 || ltb (F .peptides) (leaves F)
+
+-- K over 2N - 1
+unfoldable pub cause4 : Family → Bool
+cause4 F = ltb (2 * leaves F - 1) (regionCount F)
+
+-- an offset or the total not as laid down, or the given length not the total
+unfoldable pub cause5 : List ℕ → Bool
+cause5 s =
+    let N : ℕ = leaves (familyOf s) in
+    let K : ℕ = regionCount (familyOf s) in
+    not (eqb (numberAt s 10) lengthsOffset)
+    || not (eqb (numberAt s 12) (regionsOffset N))
+    || not (eqb (numberAt s 14) (totalLength N K))
+    || not (eqb (length s) (numberAt s 14))
+
+-- a leaf length 0, or their sum not m
+unfoldable pub cause6 : Family → Bool
+cause6 F = someBelow (leaves F) (λ j. eqb (getD (F .lengths) j 0) 0) || not (eqb (sum (F .lengths)) (F .peptides))
+
+-- first leaf 0, last below first, or last over N
+unfoldable pub misplaced : ℕ → Region → Bool
+misplaced n r = eqb (r .first) 0 || ltb (r .last) (r .first) || ltb n (r .last)
+
+unfoldable pub cause7 : Family → Bool
+cause7 F = someBelow (regionCount F) (λ k. misplaced (leaves F) (region F k))
+
+-- a region not after the one before it, the same one included
+unfoldable pub cause8 : Family → Bool
+cause8 F = someBelow (regionCount F - 1) (λ k. not (before (region F k) (region F (k + 1))))
+
+-- two regions share a leaf, neither inside the other
+unfoldable pub cause9 : Family → Bool
+cause9 F = someBelow (regionCount F) (λ j. someBelow j (λ i. crossing (region F i) (region F j)))
+
+-- a region with more than 63 regions around it
+unfoldable pub cause10 : Family → Bool
+cause10 F = someBelow (regionCount F) (λ k. ltb 63 (countBelow (regionCount F) (λ i. inside (region F k) (region F i))))
+
+-- a cause's number, and whether it holds
+pub record Cause : Type 0 where
+  pub number : ℕ
+  pub holds : Bool
+
+-- the number of the first cause that holds; 0 if none does
+unfoldable pub firstCause : List Cause → ℕ
+firstCause [] = 0
+firstCause (c ∷ cs) = cond (c .holds) (c .number) (firstCause cs)
+
+unfoldable pub fileCauses : List ℕ → List Cause
+fileCauses s =
+    let F : Family = familyOf s in
+    record { number = 1; holds = cause1 s }
+    ∷ record { number = 2; holds = cause2 F }
+    ∷ record { number = 3; holds = cause3 F }
+    ∷ record { number = 4; holds = cause4 F }
+    ∷ record { number = 5; holds = cause5 s }
+    ∷ record { number = 6; holds = cause6 F }
+    ∷ record { number = 7; holds = cause7 F }
+    ∷ record { number = 8; holds = cause8 F }
+    ∷ record { number = 9; holds = cause9 F }
+    ∷ record { number = 10; holds = cause10 F }
+    ∷ []
+
+-- none of the causes 1 to 10 holds
+abbrev pub Accepted : List ℕ → Type 0
+Accepted s = firstCause (fileCauses s) ≡ 0

@@ -1,0 +1,2 @@
+// The family file.
+pub struct Leaf(pub u16);
