@@ -69,20 +69,29 @@ unfoldable pub firstCause : List Cause → ℕ
 firstCause [] = 0
 firstCause (c ∷ cs) = cond (c .holds) (c .number) (firstCause cs)
 
-unfoldable pub fileCauses : List ℕ → List Cause
-fileCauses s =
+-- what the header says
+unfoldable pub headerCauses : List ℕ → List Cause
+headerCauses s =
     let F : Family = familyOf s in
     record { number = 1; holds = cause1 s }
     ∷ record { number = 2; holds = cause2 F }
     ∷ record { number = 3; holds = cause3 F }
     ∷ record { number = 4; holds = cause4 F }
     ∷ record { number = 5; holds = cause5 s }
-    ∷ record { number = 6; holds = cause6 F }
+    ∷ []
+
+-- what the leaf lengths and the regions say
+unfoldable pub familyCauses : Family → List Cause
+familyCauses F =
+    record { number = 6; holds = cause6 F }
     ∷ record { number = 7; holds = cause7 F }
     ∷ record { number = 8; holds = cause8 F }
     ∷ record { number = 9; holds = cause9 F }
     ∷ record { number = 10; holds = cause10 F }
     ∷ []
+
+unfoldable pub fileCauses : List ℕ → List Cause
+fileCauses s = headerCauses s ++ familyCauses (familyOf s)
 
 -- none of the causes 1 to 10 holds
 abbrev pub Accepted : List ℕ → Type 0

@@ -30,6 +30,10 @@ regionCount F = length (F .regions)
 unfoldable pub region : Family → ℕ → Region
 region F k = getD (F .regions) k (record { first = 0; last = 0; z = 0 })
 
+-- the length of leaf j, for j from 1 to N; 0 for any other number
+unfoldable pub leafLength : Family → ℕ → ℕ
+leafLength F j = getD (0 ∷ F .lengths) j 0
+
 -- how many peptides the leaves 1 to j have
 unfoldable pub peptidesUpTo : Family → ℕ → ℕ
 peptidesUpTo F j = sum (take j (F .lengths))

@@ -4,3 +4,6 @@ pub mod Bytes
 pub mod Family
 pub mod Nesting
 pub mod Causes
+pub mod WellFormed
+pub mod Climb
+pub mod Calls

@@ -1,0 +1,71 @@
+-- Tests that are joined by and, or and not, and what they say.
+use mathlib.Core.Bool.{Bool, true, false, not, _&&_, _||_, true≢false}
+use mathlib.Core.Path.{_≡_, refl, sym, _∙_}
+use mathlib.Core.Logic.{_⊎_, inl, inr}
+
+-- a test passes or fails
+pub decided : (b : Bool) → (b ≡ true) ⊎ (b ≡ false)
+decided true = inl refl
+decided false = inr refl
+
+pub clash : {b : Bool} → b ≡ true → b ≡ false → ⊥
+clash t f = true≢false (sym t ∙ f)
+
+-- a test that cannot fail passes, and one that cannot pass fails
+pub passes : (b : Bool) → (b ≡ false → ⊥) → b ≡ true
+passes true h = refl
+passes false h = absurd (h refl)
+
+pub fails : (b : Bool) → (b ≡ true → ⊥) → b ≡ false
+fails true h = absurd (h refl)
+fails false h = refl
+
+pub and-l : (a b : Bool) → a && b ≡ true → a ≡ true
+and-l true b h = refl
+and-l false b h = h
+
+pub and-r : (a b : Bool) → a && b ≡ true → b ≡ true
+and-r true b h = h
+and-r false b h = absurd (true≢false (sym h))
+
+pub and-both : (a b : Bool) → a ≡ true → b ≡ true → a && b ≡ true
+and-both true b h k = k
+and-both false b h k = h
+
+pub ruleset ands = (and-l, and-r, and-both)
+
+pub and-fails : (a b : Bool) → a && b ≡ false → (a ≡ false) ⊎ (b ≡ false)
+and-fails true b h = inr h
+and-fails false b h = inl h
+
+pub or-left : (a b : Bool) → a ≡ true → a || b ≡ true
+or-left true b h = refl
+or-left false b h = absurd (true≢false (sym h))
+
+pub or-right : (a b : Bool) → b ≡ true → a || b ≡ true
+or-right true b h = refl
+or-right false b h = h
+
+pub or-either : (a b : Bool) → a || b ≡ true → (a ≡ true) ⊎ (b ≡ true)
+or-either true b h = inl h
+or-either false b h = inr h
+
+pub or-neither : (a b : Bool) → a ≡ false → b ≡ false → a || b ≡ false
+or-neither true b h k = h
+or-neither false b h k = k
+
+pub or-fails-l : (a b : Bool) → a || b ≡ false → a ≡ false
+or-fails-l true b h = h
+or-fails-l false b h = refl
+
+pub or-fails-r : (a b : Bool) → a || b ≡ false → b ≡ false
+or-fails-r true b h = absurd (true≢false h)
+or-fails-r false b h = h
+
+pub not-fails : (b : Bool) → b ≡ true → not b ≡ false
+not-fails true h = refl
+not-fails false h = sym h
+
+pub not-passes : (b : Bool) → b ≡ false → not b ≡ true
+not-passes true h = sym h
+not-passes false h = refl

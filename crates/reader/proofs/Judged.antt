@@ -1,0 +1,274 @@
+-- Each cause as a fact: where it does not hold the fact does, and the other way round. The loops and the laws of a
+-- well-formed family use these and open no cause again.
+use Prim.Native.Nat.{ℕ, zero, suc, _+_, _*_, _-_, _<_, _≤_}
+use native.Mathlib.Omega.{arith}
+use native.Mathlib.Numerals.{add-one}
+use mathlib.Core.Bool.{Bool, true, false, not, cond, _&&_, _||_}
+use mathlib.Core.List.{List, [], _∷_, _++_}
+use mathlib.Core.Path.{_≡_, refl, sym, ap, subst, _∙_}
+use mathlib.Core.Logic.{_⊎_, inl, inr, ⊎-elim}
+use lib.ListN.{length, getD, take}
+use lib.Dec.{leb, ltb, eqb}
+use borrow.Author.Tests.{ltb-true, ltb-false, leb-true, leb-false, eqb-true, eqb-false, lt-ltb, le-ltb, le-leb, lt-leb, eq-eqb, ne-eqb, not-true, not-false}
+use Rattle.reader.specs.Lists.{sum, sameList, someBelow, countBelow}
+use Rattle.reader.specs.Bytes.{numberAt}
+use Rattle.reader.specs.Family.{Region, Family, leaves, regionCount, region, regionAt, lengthAt, familyOf, mark, regionsOffset, totalLength}
+use Rattle.reader.specs.Nesting.{before, shareLeaf, within, crossing, inside}
+use Rattle.reader.specs.Causes.{cause1, cause2, cause3, cause4, cause5, cause6, cause7, cause8, cause9, cause10, misplaced, firstCause, headerCauses, familyCauses, fileCauses}
+use Rattle.reader.proofs.Bools.{decided, clash, passes, fails, and-l, and-r, and-both, and-fails, or-left, or-right, or-either, or-neither, or-fails-l, or-fails-r, not-fails, not-passes}
+use Rattle.reader.proofs.Below.{none-at, none-below, some-same}
+use Rattle.reader.proofs.Lists.{same-equal, same-refl}
+use Rattle.reader.proofs.Parsed.{peptides-read, leaves-read, regions-read, length-read, region-read}
+
+-- Tests on numbers, as facts.
+
+eq-if-same : (a b : ℕ) → not (eqb a b) ≡ false → a ≡ b
+eq-if-same a b h = eqb-true a b (not-false (eqb a b) h)
+
+same-if-eq : (a b : ℕ) → a ≡ b → not (eqb a b) ≡ false
+same-if-eq a b h = not-fails (eqb a b) (eq-eqb a b h)
+
+some-if : (a : ℕ) → eqb a 0 ≡ false → 1 ≤ a
+some-if zero h = absurd (eqb-false 0 0 h refl)
+some-if (suc a) h = omega arith
+
+zero-unless : (a : ℕ) → 1 ≤ a → eqb a 0 ≡ false
+zero-unless a h = ne-eqb a 0 (λ e. omega arith)
+
+-- Causes 1 to 5.
+
+module _ (s : List ℕ) where
+  pub marked : cause1 s ≡ false → (16 ≤ length s) × (take 4 s ≡ mark)
+  unfolding cause1
+  marked h =
+      (ltb-false (length s) 16 (or-fails-l (ltb (length s) 16) (not (sameList (take 4 s) mark)) h),
+      same-equal (take 4 s) mark (not-false _ (or-fails-r (ltb (length s) 16) (not (sameList (take 4 s) mark)) h)))
+
+  pub from-marked : 16 ≤ length s → take 4 s ≡ mark → cause1 s ≡ false
+  unfolding cause1
+  from-marked h e = or-neither _ _ (le-ltb (length s) 16 h) (rw e (not-fails (sameList mark mark) (same-refl mark)))
+
+module _ (F : Family) where
+  pub peptides-counted : cause2 F ≡ false → (1 ≤ F .peptides) × (F .peptides ≤ 4096)
+  unfolding cause2
+  peptides-counted h = (some-if _ (or-fails-l _ (ltb 4096 (F .peptides)) h), ltb-false 4096 _ (or-fails-r (eqb (F .peptides) 0) _ h))
+
+  pub from-peptides-counted : 1 ≤ F .peptides → F .peptides ≤ 4096 → cause2 F ≡ false
+  unfolding cause2
+  from-peptides-counted a b = or-neither _ _ (zero-unless _ a) (le-ltb 4096 _ b)
+
+  pub leaves-counted : cause3 F ≡ false → (1 ≤ leaves F) × (leaves F ≤ F .peptides)
+  unfolding cause3
+  leaves-counted h = (some-if _ (or-fails-l _ (ltb (F .peptides) (leaves F)) h), ltb-false (F .peptides) _ (or-fails-r (eqb (leaves F) 0) _ h))
+
+  pub from-leaves-counted : 1 ≤ leaves F → leaves F ≤ F .peptides → cause3 F ≡ false
+  unfolding cause3
+  from-leaves-counted a b = or-neither _ _ (zero-unless _ a) (le-ltb (F .peptides) _ b)
+
+  pub regions-counted : cause4 F ≡ false → regionCount F ≤ 2 * leaves F - 1
+  unfolding cause4
+  regions-counted h = ltb-false _ _ h
+
+  pub from-regions-counted : regionCount F ≤ 2 * leaves F - 1 → cause4 F ≡ false
+  unfolding cause4
+  from-regions-counted h = le-ltb _ _ h
+
+-- the offsets and the length as laid down
+pub record LaidDown (s : List ℕ) : Type 0 where
+  pub lengths : numberAt s 10 ≡ 16
+  pub regions : numberAt s 12 ≡ 16 + 2 * numberAt s 6
+  pub total : numberAt s 14 ≡ 16 + 2 * numberAt s 6 + 6 * numberAt s 8
+  pub whole : length s ≡ 16 + 2 * numberAt s 6 + 6 * numberAt s 8
+
+module _ (s : List ℕ) where
+  pub laid-down : cause5 s ≡ false → LaidDown s
+  unfolding cause5
+  laid-down h =
+      let N : ℕ = leaves (familyOf s) in
+      let K : ℕ = regionCount (familyOf s) in
+      let a : Bool = not (eqb (numberAt s 10) 16) in
+      let b : Bool = not (eqb (numberAt s 12) (16 + 2 * N)) in
+      let c : Bool = not (eqb (numberAt s 14) (16 + 2 * N + 6 * K)) in
+      let d : Bool = not (eqb (length s) (numberAt s 14)) in
+      let abc : (a || b || c) ≡ false = or-fails-l (a || b || c) d h in
+      let ab : (a || b) ≡ false = or-fails-l (a || b) c abc in
+      let n = leaves-read s in
+      let k = regions-read s in
+      let o = eq-if-same (numberAt s 10) 16 (or-fails-l a b ab) in
+      let r = eq-if-same (numberAt s 12) (16 + 2 * N) (or-fails-r a b ab) in
+      let t = eq-if-same (numberAt s 14) (16 + 2 * N + 6 * K) (or-fails-r (a || b) c abc) in
+      let w = eq-if-same (length s) (numberAt s 14) (or-fails-r (a || b || c) d h) in
+      record { lengths = o; regions = omega arith; total = omega arith; whole = omega arith }
+
+  pub from-laid-down : LaidDown s → cause5 s ≡ false
+  unfolding cause5
+  from-laid-down l =
+      let N : ℕ = leaves (familyOf s) in
+      let K : ℕ = regionCount (familyOf s) in
+      let n = leaves-read s in
+      let k = regions-read s in
+      or-neither _ _
+      (or-neither _ _
+      (or-neither _ _ (same-if-eq (numberAt s 10) 16 (l .lengths)) (same-if-eq (numberAt s 12) (16 + 2 * N) (omega arith)))
+      (same-if-eq (numberAt s 14) (16 + 2 * N + 6 * K) (omega arith)))
+      (same-if-eq (length s) (numberAt s 14) (omega arith))
+
+  -- the last test, where the others have failed
+  pub length-laid-down :
+      numberAt s 10 ≡ 16 → numberAt s 12 ≡ 16 + 2 * numberAt s 6 → numberAt s 14 ≡ 16 + 2 * numberAt s 6 + 6 * numberAt s 8
+      → cause5 s ≡ not (eqb (length s) (16 + 2 * numberAt s 6 + 6 * numberAt s 8))
+  unfolding cause5
+  length-laid-down o r t =
+      rw (leaves-read s, regions-read s, same-if-eq (numberAt s 10) 16 o, same-if-eq (numberAt s 12) _ r, same-if-eq (numberAt s 14) _ t, t)
+
+-- Causes 6 to 10.
+
+module _ (F : Family) where
+  pub lengths-clear : cause6 F ≡ false → ((j : ℕ) → j < leaves F → 1 ≤ getD (F .lengths) j 0) × (sum (F .lengths) ≡ F .peptides)
+  unfolding cause6
+  lengths-clear h =
+      let p : ℕ → Bool = λ j. eqb (getD (F .lengths) j 0) 0 in
+      let d : Bool = not (eqb (sum (F .lengths)) (F .peptides)) in
+      (λ j l. some-if (getD (F .lengths) j 0) (none-at p (leaves F) j (or-fails-l (someBelow (leaves F) p) d h) l),
+      eq-if-same (sum (F .lengths)) (F .peptides) (or-fails-r (someBelow (leaves F) p) d h))
+
+  pub from-lengths-clear : ((j : ℕ) → j < leaves F → 1 ≤ getD (F .lengths) j 0) → sum (F .lengths) ≡ F .peptides → cause6 F ≡ false
+  unfolding cause6
+  from-lengths-clear a e =
+      or-neither (someBelow (leaves F) (λ j. eqb (getD (F .lengths) j 0) 0)) (not (eqb (sum (F .lengths)) (F .peptides)))
+      (none-below (λ j. eqb (getD (F .lengths) j 0) 0) (leaves F) (λ j l. zero-unless (getD (F .lengths) j 0) (a j l)))
+      (same-if-eq (sum (F .lengths)) (F .peptides) e)
+
+-- a region on the leaves 1 to n
+pub record OnLeaves (n : ℕ) (r : Region) : Type 0 where
+  pub first-some : 1 ≤ r .first
+  pub first-last : r .first ≤ r .last
+  pub last-leaf : r .last ≤ n
+
+pub on-leaves : (n : ℕ) (r : Region) → misplaced n r ≡ false → OnLeaves n r
+unfolding misplaced
+on-leaves n r h =
+    let a : Bool = eqb (r .first) 0 in
+    let b : Bool = ltb (r .last) (r .first) in
+    let c : Bool = ltb n (r .last) in
+    let ab : (a || b) ≡ false = or-fails-l (a || b) c h in
+    record
+    { first-some = some-if (r .first) (or-fails-l a b ab)
+    ; first-last = ltb-false (r .last) (r .first) (or-fails-r a b ab)
+    ; last-leaf = ltb-false n (r .last) (or-fails-r (a || b) c h)
+    }
+
+pub from-on-leaves : (n : ℕ) (r : Region) → OnLeaves n r → misplaced n r ≡ false
+unfolding misplaced
+from-on-leaves n r o =
+    or-neither (eqb (r .first) 0 || ltb (r .last) (r .first)) (ltb n (r .last))
+    (or-neither (eqb (r .first) 0) (ltb (r .last) (r .first)) (zero-unless (r .first) (o .first-some)) (le-ltb (r .last) (r .first) (o .first-last)))
+    (le-ltb n (r .last) (o .last-leaf))
+
+-- the last test, where the others have failed
+pub misplaced-last : (n : ℕ) (r : Region) → (r .first ≡ 0 → ⊥) → r .first ≤ r .last → misplaced n r ≡ ltb n (r .last)
+unfolding misplaced
+misplaced-last n r a b = rw (ne-eqb (r .first) 0 a, le-ltb (r .last) (r .first) b)
+
+-- by first leaf rising; at equal first leaf, by last leaf falling
+abbrev pub Before : Region → Region → Type 0
+Before r q = (r .first < q .first) ⊎ ((r .first ≡ q .first) × (q .last < r .last))
+
+pub is-before : (r q : Region) → before r q ≡ true → Before r q
+unfolding before
+is-before r q h =
+    let e : Bool = eqb (r .first) (q .first) in
+    let l : Bool = ltb (q .last) (r .last) in
+    ⊎-elim
+    (λ a. inl (ltb-true (r .first) (q .first) a))
+    (λ b. inr (eqb-true (r .first) (q .first) (and-l e l b), ltb-true (q .last) (r .last) (and-r e l b)))
+    (or-either (ltb (r .first) (q .first)) (e && l) h)
+
+pub from-before : (r q : Region) → Before r q → before r q ≡ true
+unfolding before
+from-before r q h =
+    let e : Bool = eqb (r .first) (q .first) in
+    let l : Bool = ltb (q .last) (r .last) in
+    ⊎-elim
+    (λ a. or-left (ltb (r .first) (q .first)) (e && l) (lt-ltb (r .first) (q .first) a))
+    (λ b. or-right (ltb (r .first) (q .first)) (e && l) (and-both e l (eq-eqb (r .first) (q .first) (b .0)) (lt-ltb (q .last) (r .last) (b .1))))
+    h
+
+pub not-before-last : (r q : Region) → r .first ≡ q .first → not (before r q) ≡ leb (r .last) (q .last)
+not-before-last r q e =
+    ⊎-elim
+    (λ t. rw t (not-passes (before r q) (fails (before r q) (λ b. ⊎-elim (λ a. omega arith) (λ a. omega (arith, leb-true (r .last) (q .last) t)) (is-before r q b)))))
+    (λ f. rw f (not-fails (before r q) (from-before r q (inr (e, leb-false (r .last) (q .last) f)))))
+    (decided (leb (r .last) (q .last)))
+
+module _ (F : Family) where
+  pub regions-placed : cause7 F ≡ false → (k : ℕ) → k < regionCount F → OnLeaves (leaves F) (region F k)
+  unfolding cause7
+  regions-placed h k l = on-leaves (leaves F) (region F k) (none-at (λ k. misplaced (leaves F) (region F k)) (regionCount F) k h l)
+
+  pub from-regions-placed : ((k : ℕ) → k < regionCount F → OnLeaves (leaves F) (region F k)) → cause7 F ≡ false
+  unfolding cause7
+  from-regions-placed h = none-below (λ k. misplaced (leaves F) (region F k)) (regionCount F) (λ k l. from-on-leaves (leaves F) (region F k) (h k l))
+
+  pub regions-rise : cause8 F ≡ false → (k : ℕ) → k + 1 < regionCount F → Before (region F k) (region F (k + 1))
+  unfolding cause8
+  regions-rise h k l =
+      is-before (region F k) (region F (k + 1))
+      (not-false (before (region F k) (region F (k + 1)))
+      (none-at (λ k. not (before (region F k) (region F (k + 1)))) (regionCount F - 1) k h (omega arith)))
+
+  pub from-regions-rise : ((k : ℕ) → k + 1 < regionCount F → Before (region F k) (region F (k + 1))) → cause8 F ≡ false
+  unfolding cause8
+  from-regions-rise h =
+      none-below (λ k. not (before (region F k) (region F (k + 1)))) (regionCount F - 1)
+      (λ k l. not-fails (before (region F k) (region F (k + 1))) (from-before (region F k) (region F (k + 1)) (h k (omega arith))))
+
+-- The causes 6 to 8 at the bytes.
+
+module _ (s : List ℕ) where
+  pub lengths-at-bytes :
+      cause6 (familyOf s)
+      ≡ someBelow (numberAt s 6) (λ j. eqb (lengthAt s j) 0) || not (eqb (sum (familyOf s .lengths)) (numberAt s 4))
+  unfolding cause6
+  lengths-at-bytes =
+      rw (leaves-read s, some-same (λ j. eqb (getD (familyOf s .lengths) j 0) 0) (λ j. eqb (lengthAt s j) 0) (numberAt s 6) (λ j l. rw (length-read s j l)), peptides-read s)
+
+  -- the last test, where no length is 0
+  pub sum-at-bytes :
+      someBelow (numberAt s 6) (λ j. eqb (lengthAt s j) 0) ≡ false → cause6 (familyOf s) ≡ not (eqb (sum (familyOf s .lengths)) (numberAt s 4))
+  sum-at-bytes h = lengths-at-bytes ∙ ap (λ (b : Bool). b || not (eqb (sum (familyOf s .lengths)) (numberAt s 4))) h
+
+  pub placed-at-bytes : cause7 (familyOf s) ≡ someBelow (numberAt s 8) (λ k. misplaced (numberAt s 6) (regionAt s k))
+  unfolding cause7
+  placed-at-bytes =
+      rw (regions-read s, leaves-read s)
+      (some-same (λ k. misplaced (numberAt s 6) (region (familyOf s) k)) (λ k. misplaced (numberAt s 6) (regionAt s k)) (numberAt s 8) (λ k l. rw (region-read s k l)))
+
+  pub rise-at-bytes : cause8 (familyOf s) ≡ someBelow (numberAt s 8 - 1) (λ k. not (before (regionAt s k) (regionAt s (k + 1))))
+  unfolding cause8
+  rise-at-bytes =
+      rw (regions-read s)
+      (some-same (λ k. not (before (region (familyOf s) k) (region (familyOf s) (k + 1)))) (λ k. not (before (regionAt s k) (regionAt s (k + 1)))) (numberAt s 8 - 1)
+      (λ k l. rw (region-read s k (omega arith), region-read s (k + 1) (omega arith))))
+
+-- The first cause of the header that holds.
+
+module _ (s : List ℕ) where
+  pub header-1 : cause1 s ≡ true → firstCause (headerCauses s) ≡ 1
+  unfolding firstCause headerCauses
+  header-1 h = rw h
+
+  pub header-2 : cause1 s ≡ false → cause2 (familyOf s) ≡ true → firstCause (headerCauses s) ≡ 2
+  unfolding firstCause headerCauses
+  header-2 h1 h = rw (h1, h)
+
+  pub header-3 : cause1 s ≡ false → cause2 (familyOf s) ≡ false → cause3 (familyOf s) ≡ true → firstCause (headerCauses s) ≡ 3
+  unfolding firstCause headerCauses
+  header-3 h1 h2 h = rw (h1, h2, h)
+
+  -- causes 1 to 4 do not hold
+  pub header-5 :
+      cause1 s ≡ false → cause2 (familyOf s) ≡ false → cause3 (familyOf s) ≡ false
+      → firstCause (headerCauses s) ≡ cond (cause4 (familyOf s)) 4 (cond (cause5 s) 5 0)
+  unfolding firstCause headerCauses
+  header-5 h1 h2 h3 = rw (h1, h2, h3)

@@ -1,0 +1,8 @@
+-- The laws that the proofs of `reader` and the crates above it cite.
+pub mod Bools
+pub mod Below
+pub mod Lists
+pub mod Parsed
+pub mod Judged
+pub mod Walk
+pub mod Parents

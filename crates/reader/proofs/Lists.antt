@@ -1,0 +1,55 @@
+-- Laws of the lists that the definitions are written with.
+use Prim.Native.Nat.{ℕ, zero, suc, _+_, _<_, _≤_}
+use native.Mathlib.Nat.{not-suc-le-zero, le-of-suc-le-suc, zero-add, add-zero}
+use native.Mathlib.Omega.{arith}
+use mathlib.Core.Bool.{Bool, true, false, _&&_}
+use mathlib.Core.List.{List, [], _∷_, _++_}
+use mathlib.Core.Path.{_≡_, refl, sym, ap, subst, _∙_}
+use lib.ListN.{length, getD, take}
+use lib.Seq.{ext-getD}
+use lib.Dec.{eqb}
+use borrow.Author.Tests.{eqb-true, eq-eqb}
+use Rattle.reader.specs.Lists.{tabulate, sum, sameList}
+use Rattle.reader.proofs.Bools.{and-l, and-r, and-both, fails, clash}
+
+module _ {A : Type 0} where
+  pub length-tabulate : (n : ℕ) (f : ℕ → A) → length (tabulate n f) ≡ n
+  unfolding tabulate
+  length-tabulate zero f = refl
+  length-tabulate (suc n) f = ap suc (length-tabulate n (λ i. f (suc i)))
+
+  pub getD-tabulate : (n : ℕ) (f : ℕ → A) (d : A) (k : ℕ) → k < n → getD (tabulate n f) k d ≡ f k
+  unfolding tabulate
+  getD-tabulate zero f d k h = absurd (not-suc-le-zero h)
+  getD-tabulate (suc n) f d zero h = refl
+  getD-tabulate (suc n) f d (suc k) h = getD-tabulate n (λ i. f (suc i)) d k (le-of-suc-le-suc h)
+
+-- the sum up to one element more; past the end nothing is added
+pub sum-take-suc : (l : List ℕ) (j : ℕ) → sum (take (suc j) l) ≡ sum (take j l) + getD l j 0
+unfolding sum
+sum-take-suc [] zero = refl
+sum-take-suc [] (suc j) = refl
+sum-take-suc (x ∷ l) zero = omega arith
+sum-take-suc (x ∷ l) (suc j) = omega (arith, sum-take-suc l j)
+
+pub same-refl : (l : List ℕ) → sameList l l ≡ true
+unfolding sameList
+same-refl [] = refl
+same-refl (x ∷ l) = and-both (eqb x x) (sameList l l) (eq-eqb x x refl) (same-refl l)
+
+pub same-equal : (l k : List ℕ) → sameList l k ≡ true → l ≡ k
+unfolding sameList
+same-equal [] [] h = refl
+same-equal [] (y ∷ k) h = absurd (clash h refl)
+same-equal (x ∷ l) [] h = absurd (clash h refl)
+same-equal (x ∷ l) (y ∷ k) h =
+    rw (eqb-true x y (and-l (eqb x y) (sameList l k) h), same-equal l k (and-r (eqb x y) (sameList l k) h))
+
+pub not-same : (l k : List ℕ) → (l ≡ k → ⊥) → sameList l k ≡ false
+not-same l k h = fails (sameList l k) (λ t. h (same-equal l k t))
+
+pub same-all : (l k : List ℕ) → length l ≡ length k → ((i : ℕ) → i < length l → getD l i 0 ≡ getD k i 0) → sameList l k ≡ true
+same-all l k e h = rw (ext-getD 0 l k e h) (same-refl k)
+
+pub same-is : (l k : List ℕ) → l ≡ k → sameList l k ≡ true
+same-is l k e = rw e (same-refl k)

@@ -1,0 +1,77 @@
+-- The layout of a file: what `familyOf` reads as counts, lengths and regions.
+use Prim.Native.Nat.{ℕ, zero, suc, _+_, _*_, _<_, _≤_}
+use native.Mathlib.Omega.{arith}
+use mathlib.Core.Path.{_≡_, refl, sym, _∙_, ap}
+use mathlib.Core.List.{List, [], _∷_}
+use lib.ListN.{length, getD, List·getD-eq-default}
+use Rattle.reader.specs.Lists.{tabulate}
+use Rattle.reader.specs.Bytes.{IsBytes, numberAt}
+use Rattle.reader.specs.Family.{Region, Family, leaves, regionCount, region, leafLength, lengthAt, regionAt, familyOf}
+use Rattle.reader.specs.declared.family.Region as struct
+use Rattle.reader.specs.Calls.{held}
+use Rattle.reader.proofs.Lists.{length-tabulate, getD-tabulate}
+
+module _ (s : List ℕ) where
+  pub peptides-read : familyOf s .peptides ≡ numberAt s 4
+  unfolding familyOf
+  peptides-read = refl
+
+  pub leaves-read : leaves (familyOf s) ≡ numberAt s 6
+  unfolding familyOf
+  leaves-read = length-tabulate (numberAt s 6) (lengthAt s)
+
+  pub regions-read : regionCount (familyOf s) ≡ numberAt s 8
+  unfolding familyOf
+  regions-read = length-tabulate (numberAt s 8) (regionAt s)
+
+  pub length-read : (j : ℕ) → j < numberAt s 6 → getD (familyOf s .lengths) j 0 ≡ lengthAt s j
+  unfolding familyOf
+  length-read j h = getD-tabulate (numberAt s 6) (lengthAt s) 0 j h
+
+  pub length-number : (j : ℕ) → j < numberAt s 6 → getD (familyOf s .lengths) j 0 ≡ numberAt s (16 + 2 * j)
+  unfolding lengthAt
+  length-number j h = length-read j h
+
+  pub region-read : (k : ℕ) → k < numberAt s 8 → region (familyOf s) k ≡ regionAt s k
+  unfolding familyOf region
+  region-read k h = getD-tabulate (numberAt s 8) (regionAt s) _ k h
+
+  pub region-past : (k : ℕ) → numberAt s 8 ≤ k → region (familyOf s) k ≡ record { first = 0; last = 0; z = 0 }
+  unfolding region
+  region-past k h = List·getD-eq-default (familyOf s .regions) _ (omega (arith, regions-read))
+
+pub length-past : (F : Family) (j : ℕ) → leaves F < j → leafLength F j ≡ 0
+unfolding leafLength
+length-past F j h = List·getD-eq-default (0 ∷ F .lengths) 0 {n = j} (omega arith)
+
+pub length-none : (F : Family) (j : ℕ) → j ≡ 0 → leafLength F j ≡ 0
+unfolding leafLength
+length-none F j e = rw e
+
+-- the length of leaf j + 1 is the one at place j
+pub length-leaf : (F : Family) (j : ℕ) → leafLength F (suc j) ≡ getD (F .lengths) j 0
+unfolding leafLength
+length-leaf F j = refl
+
+pub length-at : (s : List ℕ) (j : ℕ) → (j ≡ 0 → ⊥) → j ≤ numberAt s 6 → leafLength (familyOf s) j ≡ numberAt s (14 + 2 * j)
+unfolding lengthAt
+length-at s zero h l = absurd (h refl)
+length-at s (suc j) h l = length-leaf (familyOf s) j ∙ length-read s j l ∙ ap (numberAt s) (omega arith)
+
+-- the fields of a struct that holds a region
+module _ (r : struct.Region) (q : Region) (h : held r ≡ q) where
+  pub held-first : r .first .0 ≡ q .first
+  unfolding held
+  held-first = ap (λ (t : Region). t .first) h
+
+  pub held-last : r .last .0 ≡ q .last
+  unfolding held
+  held-last = ap (λ (t : Region). t .last) h
+
+  pub held-z : r .z ≡ q .z
+  unfolding held
+  held-z = ap (λ (t : Region). t .z) h
+
+pub number-fits : (s : List ℕ) → IsBytes s → (i : ℕ) → numberAt s i < 65536
+unfolding numberAt
+number-fits s b i = omega (arith, b i, b (i + 1))

@@ -1,0 +1,111 @@
+-- The loop has added the lengths before leaf j and found none of them 0.
+use Prim.Native.Nat.{ℕ, _≤_, _-_, _*_}
+use native.Mathlib.Omega.{arith}
+use mathlib.Core.Bool.{false, not}
+use mathlib.Core.Path.{_≡_, sym, ap₂, _∙_}
+use lib.Dec.{eqb}
+use borrow.Author.Tests.{eq-eqb, ne-eqb}
+use denote.Ref.{now}
+use Rattle.reader.specs.Lists.{someBelow}
+use Rattle.reader.specs.Bytes.{numberAt}
+use Rattle.reader.specs.Family.{familyOf, lengthAt, peptidesUpTo}
+use Rattle.reader.proofs.Bools.{or-left}
+use Rattle.reader.proofs.Below.{none-below-zero, none-more, some-at}
+use Rattle.reader.proofs.Parsed.{leaves-read, length-number}
+use Rattle.reader.proofs.Walk.{nothing-before, up-to-next, up-to-end}
+use Rattle.reader.proofs.Judged.{lengths-at-bytes, sum-at-bytes}
+use borrow.Author.Needs.{needs}
+use Rattle.reader.proofs.causes.bad_lengths.Statement.{statement}
+use Rattle.reader.proofs.causes.bad_lengths.Tie as tie
+
+abbrev Inv-loop : tie.InvT-loop
+Inv-loop file leaves sum₀ j₀ sum j =
+    (j ≤ leaves)
+    × (leaves ≡ numberAt file 6)
+    × (leaves ≤ 65535)
+    × (sum ≤ 65535 * j)
+    × (sum ≡ peptidesUpTo (familyOf file) j)
+    × (someBelow j (λ i. eqb (lengthAt file i) 0) ≡ false)
+
+abbrev μ-loop : tie.MeasureT-loop
+μ-loop file leaves sum₀ j₀ sum j = leaves - j
+
+number-at-requires : tie.Need-number-at-requires Inv-loop μ-loop
+number-at-requires c κs = search needs
+
+cast-leaves : tie.Need-cast-leaves Inv-loop μ-loop
+cast-leaves c = search needs
+
+loop-holds : tie.Need-loop-holds Inv-loop μ-loop
+loop-holds c = (omega arith, c .number-at .ensures, omega (arith, c .number-at .ok), omega arith, sym (nothing-before _), none-below-zero _)
+
+mul-number-at : tie.Need-mul-number-at Inv-loop μ-loop
+mul-number-at c = search needs
+
+add-number-at : tie.Need-add-number-at Inv-loop μ-loop
+add-number-at c = search needs
+
+number-at-requires-2 : tie.Need-number-at-requires-2 Inv-loop μ-loop
+number-at-requires-2 c κs = search needs
+
+returns : tie.Need-returns Inv-loop μ-loop
+unfolding lengthAt
+returns c =
+    let s = now (c .before .before .before .before .before .before .args .file) in
+    sym (lengths-at-bytes s ∙ or-left _ _ (some-at (λ i. eqb (lengthAt s i) 0) (numberAt s 6) (c .before .before .before .loop .j) (omega arith) (eq-eqb _ 0 (sym (c .before .number-at2 .ensures) ∙ c .if1 .taken))))
+
+cast-sum : tie.Need-cast-sum Inv-loop μ-loop
+cast-sum c = search needs
+
+add-sum : tie.Need-add-sum Inv-loop μ-loop
+add-sum c = search needs
+
+add-j : tie.Need-add-j Inv-loop μ-loop
+add-j c = search needs
+
+loop-less : tie.Need-loop-less Inv-loop μ-loop
+loop-less c = search needs
+
+loop-again : tie.Need-loop-again Inv-loop μ-loop
+unfolding lengthAt
+loop-again c =
+    let s = now (c .before .before .before .before .before .before .args .file) in
+    let j = c .before .before .before .loop .j in
+    let inv = c .before .before .before .loop .inv in
+    (omega arith, inv .1, inv .2, omega (arith, c .before .number-at2 .ok), omega (arith, up-to-next (familyOf s) j, length-number s j (omega arith)),
+    none-more _ _ (inv .5) (ne-eqb _ 0 (λ e. c .if1 .left (c .before .number-at2 .ensures ∙ e))))
+
+number-at-requires-3 : tie.Need-number-at-requires-3 Inv-loop μ-loop
+number-at-requires-3 c κs = search needs
+
+cast-result : tie.Need-cast-result Inv-loop μ-loop
+cast-result c = search needs
+
+returns-2 : tie.Need-returns-2 Inv-loop μ-loop
+returns-2 c =
+    let s = now (c .before .before .before .before .before .args .file) in
+    let end : c .before .before .loop .j ≡ numberAt s 6 = omega arith in
+    ap₂ (λ (a b : ℕ). not (eqb a b)) (omega (arith, up-to-end (familyOf s) (c .before .before .loop .j) (omega (arith, leaves-read s)))) (c .number-at3 .ensures)
+    ∙ sym (sum-at-bytes s (rw end at (c .before .before .loop .inv .5)))
+
+pub bad-lengths-spec : {M : Type 1} → statement M
+bad-lengths-spec =
+    tie.close
+    (tie.spec
+    Inv-loop
+    μ-loop
+    number-at-requires
+    cast-leaves
+    loop-holds
+    mul-number-at
+    add-number-at
+    number-at-requires-2
+    returns
+    cast-sum
+    add-sum
+    add-j
+    loop-less
+    loop-again
+    number-at-requires-3
+    cast-result
+    returns-2)

@@ -1,0 +1,46 @@
+-- What the calls of `reader` answer, defined from the bytes of the file.
+use Prim.Native.Nat.{ℕ, _<_, _≤_}
+use mathlib.Core.Bool.{cond, _&&_}
+use mathlib.Core.List.{List, [], _∷_, _++_}
+use mathlib.Core.Path.{_≡_}
+use lib.ListN.{length, drop}
+use lib.Dec.{leb, eqb}
+use Rattle.reader.specs.Family as family
+use Rattle.reader.specs.Family.{familyOf, leaves, regionCount, regionsOffset}
+use Rattle.reader.specs.Nesting.{parents}
+use Rattle.reader.specs.Causes.{firstCause, fileCauses}
+use Rattle.reader.specs.declared.checking.Checked.{Checked}
+use Rattle.reader.specs.declared.checking.Checked.the-variants.{Family, Refused}
+use Rattle.reader.specs.declared.family.Region.{Region}
+
+-- What an answer says: a cause's number, 0 for none, and the values that come with it.
+pub record Report : Type 0 where
+  pub number : ℕ
+  pub values : List ℕ
+
+-- the number and the values of each case of `Checked`
+unfoldable pub report : Checked → Report
+report (Family m n k) = record { number = 0; values = m ∷ n ∷ k ∷ [] }
+report (Refused n) = record { number = n; values = [] }
+
+-- m, N and K of an accepted file, else the number of the first cause that holds
+unfoldable pub checked : List ℕ → Report
+checked s =
+    cond (eqb (firstCause (fileCauses s)) 0)
+    (record { number = 0; values = familyOf s .peptides ∷ leaves (familyOf s) ∷ regionCount (familyOf s) ∷ [] })
+    (record { number = firstCause (fileCauses s); values = [] })
+
+-- the part of an accepted file that holds the regions; nothing of any other file
+unfoldable pub regionPart : List ℕ → List ℕ
+regionPart s = cond (eqb (firstCause (fileCauses s)) 0) (drop (regionsOffset (leaves (familyOf s))) s) []
+
+-- a lent list after the call: the parents from its start where the file is accepted and the list has room for them, else as it was
+unfoldable pub withParents : List ℕ → List ℕ → List ℕ
+withParents s out =
+    cond (eqb (firstCause (fileCauses s)) 0 && leb (regionCount (familyOf s)) (length out))
+    (parents (familyOf s) ++ drop (regionCount (familyOf s)) out)
+    out
+
+-- the region that a struct holds
+unfoldable pub held : Region → family.Region
+held r = record { first = r .first .0; last = r .last .0; z = r .z }

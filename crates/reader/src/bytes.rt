@@ -1,0 +1,42 @@
+// Bytes, and numbers of 2 bytes, low byte first.
+ghost use mathlib.Core.Path.{_≡_};
+ghost use lib.ListN.{getD};
+ghost use Rattle.reader.specs.Bytes.{numberAt};
+ghost use Rattle.reader.specs.Lists.{sameList};
+
+// The byte at an offset; 0 past the end.
+fn byte_at(s: &[u8], at: usize) -> u8
+    ensures { λ r. ⌜ r ≡ getD (now (s .entry)) at 0 ⌝ }
+{
+    if at < s.len() { s[at] } else { 0 }
+}
+
+// The number at an offset; what lies past the end counts as 0.
+pub fn number_at(s: &[u8], at: usize) -> u16
+    ensures { λ r. ⌜ r ≡ numberAt (now (s .entry)) at ⌝ }
+{
+    if at < s.len() {
+        let low = s[at];
+        let high = byte_at(s, at + 1);
+        (low as u16) + 256 * (high as u16)
+    } else {
+        0
+    }
+}
+
+// Whether two slices hold the same bytes.
+pub fn same_bytes(a: &[u8], b: &[u8]) -> bool
+    ensures { λ r. ⌜ r ≡ sameList (now (a .entry)) (now (b .entry)) ⌝ }
+{
+    if a.len() != b.len() {
+        return false;
+    }
+    let mut i = 0;
+    while i < a.len() {
+        if a[i] != b[i] {
+            return false;
+        }
+        i += 1;
+    }
+    true
+}

@@ -1,0 +1,146 @@
+// Causes 1 to 8: the header, the leaf lengths and the regions one by one.
+use crate::bytes::number_at;
+use crate::bytes::same_bytes;
+use crate::family::Region;
+use crate::family::region_at;
+ghost use mathlib.Core.Path.{_≡_};
+ghost use mathlib.Core.Bool.{not};
+ghost use Rattle.reader.specs.Family.{familyOf, regionAt};
+ghost use Rattle.reader.specs.Nesting.{before};
+ghost use Rattle.reader.specs.Causes.{cause1, cause5, cause6, cause7, cause8, misplaced, firstCause, headerCauses};
+ghost use Rattle.reader.specs.Calls.{held};
+
+fn lacks_mark(file: &[u8]) -> bool
+    ensures { λ r. ⌜ r ≡ cause1 (now (file .entry)) ⌝ }
+{
+    if file.len() < 16 {
+        return true;
+    }
+    if same_bytes(&file[0..4], b"PHFB") { false } else { true }
+}
+
+// The first of the causes 1 to 5 that holds, or 0.
+pub(crate) fn header_cause(file: &[u8]) -> u16
+    ensures { λ r. ⌜ r ≡ firstCause (headerCauses (now (file .entry))) ⌝ }
+{
+    if lacks_mark(file) {
+        return 1;
+    }
+    let m = number_at(file, 4);
+    let n = number_at(file, 6);
+    let k = number_at(file, 8);
+    if m == 0 {
+        return 2;
+    }
+    if 4096 < m {
+        return 2;
+    }
+    if n == 0 {
+        return 3;
+    }
+    if m < n {
+        return 3;
+    }
+    if 2 * n - 1 < k {
+        return 4;
+    }
+    if bad_layout(file) { 5 } else { 0 }
+}
+
+// An offset or the total not as laid down, or the given length not the total.
+fn bad_layout(file: &[u8]) -> bool
+    ensures { λ r. ⌜ r ≡ cause5 (now (file .entry)) ⌝ }
+{
+    let regions_offset = 16 + 2 * (number_at(file, 6) as usize);
+    let total = regions_offset + 6 * (number_at(file, 8) as usize);
+    if number_at(file, 10) != 16 {
+        return true;
+    }
+    if (number_at(file, 12) as usize) != regions_offset {
+        return true;
+    }
+    if (number_at(file, 14) as usize) != total {
+        return true;
+    }
+    file.len() != total
+}
+
+// A leaf length 0, or their sum not m.
+pub(crate) fn bad_lengths(file: &[u8]) -> bool
+    ensures { λ r. ⌜ r ≡ cause6 (familyOf (now (file .entry))) ⌝ }
+{
+    let leaves = number_at(file, 6) as usize;
+    let mut sum: usize = 0;
+    let mut j = 0;
+    while j < leaves {
+        let length = number_at(file, 16 + 2 * j);
+        if length == 0 {
+            return true;
+        }
+        sum += length as usize;
+        j += 1;
+    }
+    sum != number_at(file, 4) as usize
+}
+
+// First leaf 0, last below first, or last over N, of some region.
+pub(crate) fn misplaced_region(file: &[u8]) -> bool
+    ensures { λ r. ⌜ r ≡ cause7 (familyOf (now (file .entry))) ⌝ }
+{
+    let leaves = number_at(file, 6);
+    let regions = number_at(file, 8);
+    let mut k = 0;
+    while k < regions {
+        if misplaced_at(file, leaves, k) {
+            return true;
+        }
+        k += 1;
+    }
+    false
+}
+
+fn misplaced_at(file: &[u8], leaves: u16, k: u16) -> bool
+    ensures { λ r. ⌜ r ≡ misplaced leaves (regionAt (now (file .entry)) k) ⌝ }
+{
+    let r = region_at(file, k);
+    let first = r.first.0;
+    let last = r.last.0;
+    if first == 0 {
+        return true;
+    }
+    if last < first {
+        return true;
+    }
+    leaves < last
+}
+
+// A region not after the one before it.
+pub(crate) fn misordered_region(file: &[u8]) -> bool
+    ensures { λ r. ⌜ r ≡ cause8 (familyOf (now (file .entry))) ⌝ }
+{
+    let regions = number_at(file, 8);
+    let mut k = 0;
+    while k + 1 < regions {
+        if not_before(region_at(file, k), region_at(file, k + 1)) {
+            return true;
+        }
+        k += 1;
+    }
+    false
+}
+
+fn not_before(r: Region, q: Region) -> bool
+    ensures { λ b. ⌜ b ≡ not (before (held r) (held q)) ⌝ }
+{
+    let from = r.first.0;
+    let next = q.first.0;
+    if from < next {
+        return false;
+    }
+    if next < from {
+        return true;
+    }
+    let end = r.last.0;
+    let inner = q.last.0;
+    end <= inner
+}
