@@ -11,7 +11,7 @@ use borrow.Author.Tests.{eqb-true, eqb-false, eq-eqb, ne-eqb}
 use Rattle.reader.specs.Lists.{someBelow, countBelow, firstBelow}
 use Rattle.reader.proofs.Bools.{decided, clash, or-left, or-right, or-either, or-neither, or-fails-l, or-fails-r}
 
-below-suc : {k n : ℕ} → k < suc n → (k ≡ n) ⊎ (k < n)
+pub below-suc : {k n : ℕ} → k < suc n → (k ≡ n) ⊎ (k < n)
 below-suc h = eq-or-lt-of-le (le-of-suc-le-suc h)
 
 module _ (p : ℕ → Bool) where

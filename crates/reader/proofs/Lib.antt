@@ -5,4 +5,6 @@ pub mod Lists
 pub mod Parsed
 pub mod Judged
 pub mod Walk
-pub mod Parents
+pub mod First
+pub mod Climbing
+pub mod Accepting

@@ -2,11 +2,12 @@
 use Prim.Native.Nat.{ℕ, zero, suc, _+_, _<_, _≤_}
 use native.Mathlib.Nat.{not-suc-le-zero, le-of-suc-le-suc, zero-add, add-zero}
 use native.Mathlib.Omega.{arith}
+use native.Mathlib.Numerals.{add-one}
 use mathlib.Core.Bool.{Bool, true, false, _&&_}
 use mathlib.Core.List.{List, [], _∷_, _++_}
 use mathlib.Core.Path.{_≡_, refl, sym, ap, subst, _∙_}
-use lib.ListN.{length, getD, take}
-use lib.Seq.{ext-getD}
+use lib.ListN.{length, getD, take, drop, set}
+use lib.Seq.{ext-getD, drop-cons, take-suc, set-at, append-snoc, length-take-le}
 use lib.Dec.{eqb}
 use borrow.Author.Tests.{eqb-true, eq-eqb}
 use Rattle.reader.specs.Lists.{tabulate, sum, sameList}
@@ -53,3 +54,10 @@ same-all l k e h = rw (ext-getD 0 l k e h) (same-refl k)
 
 pub same-is : (l k : List ℕ) → l ≡ k → sameList l k ≡ true
 same-is l k e = rw e (same-refl k)
+
+-- a copy of the front of one list into another, one element further
+pub copy-more :
+    (f t : List ℕ) (i : ℕ) → i < length f → i < length t → set (take i f ++ drop i t) i (getD f i 0) ≡ take (i + 1) f ++ drop (i + 1) t
+copy-more f t i lf lt =
+    rw (drop-cons t i 0 lt, set-at (take i f) (getD t i 0) (drop (suc i) t) (getD f i 0) i (length-take-le i f (omega arith)), add-one i, take-suc f i 0 lf)
+    (sym (append-snoc (take i f) (getD f i 0) (drop (suc i) t)))

@@ -8,9 +8,10 @@ use lib.Dec.{leb, eqb}
 use Rattle.reader.specs.Family as family
 use Rattle.reader.specs.Family.{familyOf, leaves, regionCount, regionsOffset}
 use Rattle.reader.specs.Nesting.{parents}
-use Rattle.reader.specs.Causes.{firstCause, fileCauses}
-use Rattle.reader.specs.declared.checking.Checked.{Checked}
-use Rattle.reader.specs.declared.checking.Checked.the-variants.{Family, Refused}
+use Rattle.reader.specs.Causes.{firstCause, fileCauses, Accepted}
+use Rattle.reader.specs.WellFormed.{ParentsBelow}
+use Rattle.reader.specs.declared.Checked.{Checked}
+use Rattle.reader.specs.declared.Checked.the-variants.{Family, Refused}
 use Rattle.reader.specs.declared.family.Region.{Region}
 
 -- What an answer says: a cause's number, 0 for none, and the values that come with it.
@@ -44,3 +45,8 @@ withParents s out =
 -- the region that a struct holds
 unfoldable pub held : Region → family.Region
 held r = record { first = r .first .0; last = r .last .0; z = r .z }
+
+-- what the check finds, with the parents of an accepted family in the list
+pub record Judged (s P : List ℕ) (r : Checked) : Type 0 where
+  pub reported : report r ≡ checked s
+  pub parents : Accepted s → ParentsBelow (familyOf s) P (regionCount (familyOf s))

@@ -5,10 +5,10 @@ use mathlib.Core.List.{List, [], _∷_, _++_}
 use mathlib.Core.Path.{_≡_}
 use lib.ListN.{length, getD, take, drop}
 use lib.Dec.{leb, ltb, eqb}
-use Rattle.reader.specs.Lists.{sum, sameList, someBelow, countBelow}
+use Rattle.reader.specs.Lists.{sum, sameList, someBelow}
 use Rattle.reader.specs.Bytes.{numberAt}
 use Rattle.reader.specs.Family.{Region, Family, leaves, regionCount, region, familyOf, mark, lengthsOffset, regionsOffset, totalLength}
-use Rattle.reader.specs.Nesting.{before, crossing, inside}
+use Rattle.reader.specs.Nesting.{before, crossing, regionsAround}
 
 -- under 16 bytes, or another mark
 unfoldable pub cause1 : List ℕ → Bool
@@ -57,7 +57,7 @@ cause9 F = someBelow (regionCount F) (λ j. someBelow j (λ i. crossing (region 
 
 -- a region with more than 63 regions around it
 unfoldable pub cause10 : Family → Bool
-cause10 F = someBelow (regionCount F) (λ k. ltb 63 (countBelow (regionCount F) (λ i. inside (region F k) (region F i))))
+cause10 F = someBelow (regionCount F) (λ k. ltb 63 (regionsAround F k))
 
 -- a cause's number, and whether it holds
 pub record Cause : Type 0 where

@@ -3,7 +3,7 @@ use Prim.Native.Nat.{ℕ}
 use mathlib.Core.Bool.{Bool, not, _&&_, _||_}
 use mathlib.Core.List.{List}
 use lib.Dec.{leb, ltb, eqb}
-use Rattle.reader.specs.Lists.{tabulate, someBelow, firstBelow}
+use Rattle.reader.specs.Lists.{tabulate, someBelow, countBelow, firstBelow}
 use Rattle.reader.specs.Family.{Region, Family, region, regionCount}
 
 -- r comes before q in a file: by first leaf rising; at equal first leaf, by last leaf falling
@@ -23,6 +23,10 @@ crossing r q = shareLeaf r q && not (within r q) && not (within q r)
 -- r is strictly inside q, and q around r
 unfoldable pub inside : Region → Region → Bool
 inside r q = within r q && not (within q r)
+
+-- how many regions are around the k-th one
+abbrev pub regionsAround : Family → ℕ → ℕ
+regionsAround F k = countBelow (regionCount F) (λ i. inside (region F k) (region F i))
 
 -- r is strictly inside q, with none of the regions between them
 unfoldable pub justInside : Family → Region → Region → Bool

@@ -1,13 +1,12 @@
 -- A well-formed family, as plain facts. A file is accepted exactly when it is the file of a well-formed family.
 use Prim.Native.Nat.{ℕ, suc, _+_, _*_, _-_, _<_, _≤_}
-use mathlib.Core.Bool.{Bool}
 use mathlib.Core.List.{List}
 use mathlib.Core.Logic.{_⊎_}
 use mathlib.Core.Path.{_≡_}
 use lib.ListN.{getD}
-use Rattle.reader.specs.Lists.{sum, countBelow}
+use Rattle.reader.specs.Lists.{sum}
 use Rattle.reader.specs.Family.{Family, leaves, regionCount, region}
-use Rattle.reader.specs.Nesting.{inside}
+use Rattle.reader.specs.Nesting.{regionsAround}
 
 -- Every region lies on the leaves, and the regions stand by first leaf rising and, at equal first leaf, by last leaf falling.
 pub record Ordered (F : Family) : Type 0 where
@@ -31,7 +30,7 @@ pub record WellFormed (F : Family) : Type 0 where
   pub lengths-sum : sum (F .lengths) ≡ F .peptides
   pub ordered : Ordered F
   pub nested : NestedBelow F (regionCount F)
-  pub shallow : (k : ℕ) → k < regionCount F → countBelow (regionCount F) (λ i. inside (region F k) (region F i)) ≤ 63
+  pub shallow : (k : ℕ) → k < regionCount F → regionsAround F k ≤ 63
   pub z-fits : (k : ℕ) → k < regionCount F → region F k .z < 65536
 
 -- c is the number, counted from 1, of the region just around the k-th one, or 0 where none is around it.

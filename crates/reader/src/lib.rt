@@ -1,7 +1,138 @@
 // The family file: its bytes read and checked, its leaves, its regions and how they nest.
-// Every call is total: it takes any bytes, and says what it answers for each.
+// Every public call takes any bytes, and its promise is an equation on what it answers and leaves in a lent slice.
 pub mod bytes;
 mod causes;
-pub mod checking;
 pub mod family;
 mod nesting;
+
+use bytes::number_at;
+use causes::bad_lengths;
+use causes::header_cause;
+use causes::misordered_region;
+use causes::misplaced_region;
+use nesting::fill_parents;
+use nesting::too_deep;
+ghost use mathlib.Core.Path.{_≡_};
+ghost use mathlib.Core.Bool.{cond};
+ghost use mathlib.Core.List.{_++_};
+ghost use Prim.Native.Nat.{_≤_};
+ghost use lib.ListN.{length, take, drop};
+ghost use lib.Dec.{leb};
+ghost use Rattle.reader.specs.Family.{familyOf};
+ghost use Rattle.reader.specs.Causes.{firstCause, headerCauses};
+ghost use Rattle.reader.specs.Climb.{FamilyJudged};
+ghost use Rattle.reader.specs.Calls.{Judged, report, checked, regionPart, withParents};
+
+// An accepted family with m, N and K, or the number of the first cause that holds.
+pub enum Checked {
+    Family {
+        peptides: u16,
+        leaves: u16,
+        regions: u16,
+    },
+    Refused(u16),
+}
+
+// The first of the causes 6 to 10 that holds, or 0 with the parents written.
+fn family_cause(file: &[u8], parents: &mut [u16]) -> u16
+    requires { ⌜ 8191 ≤ length (now parents) ⌝ }
+    requires { ⌜ firstCause (headerCauses (now file)) ≡ 0 ⌝ }
+    ensures { λ r. ⌜ FamilyJudged (familyOf (now (file .entry))) (now (parents .exit)) r ⌝ }
+{
+    if bad_lengths(file) {
+        return 6;
+    }
+    if misplaced_region(file) {
+        return 7;
+    }
+    if misordered_region(file) {
+        return 8;
+    }
+    if fill_parents(file, parents) {
+        return 9;
+    }
+    if too_deep(file, parents) { 10 } else { 0 }
+}
+
+// The answer of the check, with the parents of an accepted family written.
+fn judge(file: &[u8], parents: &mut [u16]) -> Checked
+    requires { ⌜ 8191 ≤ length (now parents) ⌝ }
+    ensures { λ r. ⌜ Judged (now (file .entry)) (now (parents .exit)) r ⌝ }
+{
+    let header = header_cause(file);
+    if header != 0 {
+        return Checked::Refused(header);
+    }
+    let family = family_cause(file, parents);
+    if family != 0 {
+        return Checked::Refused(family);
+    }
+    Checked::Family {
+        peptides: number_at(file, 4),
+        leaves: number_at(file, 6),
+        regions: number_at(file, 8),
+    }
+}
+
+// Whether the bytes are an accepted family: m, N and K, or the number of the first cause that holds.
+pub fn check(file: &[u8]) -> Checked
+    ensures { λ r. ⌜ report r ≡ checked (now (file .entry)) ⌝ }
+{
+    let mut parents = [0u16; 8191];
+    judge(file, &mut parents)
+}
+
+// The part of the file that holds the regions; empty if the file is refused or has none.
+pub fn regions<'a>(file: &'a [u8]) -> &'a [u8]
+    ensures { λ r. ⌜ now r ≡ regionPart (now (file .entry)) ⌝ }
+{
+    match check(file) {
+        Checked::Family {
+            peptides: _,
+            leaves,
+            regions: _,
+        } => {
+            let from = 16 + 2 * (leaves as usize);
+            &file[from..]
+        }
+        Checked::Refused(_) => &file[0..0],
+    }
+}
+
+// Copies the first n numbers, if they have room.
+fn copy_front(from: &[u16], n: usize, to: &mut [u16])
+    requires { ⌜ n ≤ length (now from) ⌝ }
+    ensures { λ _. ⌜ now (to .exit) ≡ cond (leb n (length (now (to .entry)))) (take n (now (from .entry)) ++ drop n (now (to .entry))) (now (to .entry)) ⌝ }
+{
+    if n <= to.len() {
+        let mut i = 0;
+        while i < n {
+            to[i] = from[i];
+            i += 1;
+        }
+    }
+}
+
+// The check, and the parent of each region of an accepted family: the number, from 1, of the region just around it,
+// or 0. They are written from the start of the lent slice if it has room for K of them; else it is unchanged.
+pub fn parents(file: &[u8], out: &mut [u16]) -> Checked
+    ensures { λ r. ⌜ report r ≡ checked (now (file .entry)) ⌝ }
+    ensures { λ _. ⌜ now (out .exit) ≡ withParents (now (file .entry)) (now (out .entry)) ⌝ }
+{
+    let mut found = [0u16; 8191];
+    match judge(file, &mut found) {
+        Checked::Family {
+            peptides,
+            leaves,
+            regions,
+        } => {
+            copy_front(&found, regions as usize, out);
+            Checked::Family {
+                peptides,
+                leaves,
+                regions,
+            }
+        }
+        Checked::Refused(number) => Checked::Refused(number),
+    }
+}

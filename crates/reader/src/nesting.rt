@@ -3,7 +3,7 @@
 use crate::bytes::number_at;
 use crate::family::region_at;
 ghost use mathlib.Core.Path.{_≡_};
-ghost use Prim.Native.Nat.{_-_, _≤_};
+ghost use Prim.Native.Nat.{ℕ, _<_, _≤_};
 ghost use lib.ListN.{length, getD};
 ghost use Rattle.reader.specs.Family.{familyOf, region, regionCount};
 ghost use Rattle.reader.specs.Causes.{cause10};
@@ -66,7 +66,7 @@ pub(crate) fn fill_parents(file: &[u8], parents: &mut [u16]) -> bool
 // One more than the depth of the region of that number; 0 for none.
 fn one_deeper(depths: &[u8], number: u16) -> u8
     requires { ⌜ number ≤ length (now depths) ⌝ }
-    requires { ⌜ getD (now depths) (number - 1) 0 ≤ 63 ⌝ }
+    requires { ⌜ ((i : ℕ) → i < number → getD (now depths) i 0 ≤ 63) ⌝ }
     ensures { λ r. ⌜ r ≡ oneDeeper (now (depths .entry)) number ⌝ }
 {
     if number == 0 { 0 } else { depths[(number - 1) as usize] + 1 }

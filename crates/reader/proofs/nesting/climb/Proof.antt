@@ -1,59 +1,68 @@
+-- The climb keeps every region that reaches the first leaf of the k-th one; it falls, since a parent comes earlier.
+use Prim.Native.Nat.{ℕ, suc, _≤_, _<_, _-_, _+_}
+use native.Mathlib.Omega.{arith}
+use mathlib.Core.Path.{_≡_, sym, subst, _∙_}
+use denote.Ref.{now}
+use Rattle.reader.specs.Family.{familyOf, region}
+use Rattle.reader.proofs.Parsed.{regions-read, region-read, held-last}
+use Rattle.reader.proofs.Climbing.{Climbable, climb-starts, climb-steps, climb-stops, climb-ends}
 use borrow.Author.Needs.{needs}
 use Rattle.reader.proofs.nesting.climb.Statement.{statement}
 use Rattle.reader.proofs.nesting.climb.Tie as tie
-use Rattle.reader.proofs.nesting.climb.Reads as reads
-use Rattle.reader.proofs.nesting.climb.Lts as lts
-use Rattle.reader.proofs.family.region_at.Reads as region-at-reads
 
 abbrev Inv-loop : tie.InvT-loop
-Inv-loop file parents k first number₀ number = ?
+Inv-loop file parents k first number₀ number = Climbable (familyOf file) k number
 
 abbrev μ-loop : tie.MeasureT-loop
-μ-loop file parents k first number₀ number = ?
+μ-loop file parents k first number₀ number = number
 
--- src/nesting.rt:20:5
+-- the region that the loop looks at ends where its struct says
+last-read : (c : tie.After-region-at Inv-loop μ-loop) → c .region-at .result .last .0 ≡ region (familyOf (now (c .before .before .before .before .before .args .file))) (c .before .before .loop .number - 1) .last
+last-read c =
+    let s = now (c .before .before .before .before .before .args .file) in
+    let pre = c .before .before .before .before .before .pre .0 in
+    held-last _ _ (c .region-at .ensures ∙ sym (region-read s (c .before .before .loop .number - 1) (omega (arith, regions-read s, pre .here, c .before .before .loop .inv .0, c .before .loop-test))))
+
 loop-holds : tie.Need-loop-holds Inv-loop μ-loop
-loop-holds c = search needs
+loop-holds c = let pre = c .before .before .pre .0 in climb-starts _ (pre .ordered) _ (pre .here) (pre .nested)
 
--- src/nesting.rt:21:41
 sub-region-at : tie.Need-sub-region-at Inv-loop μ-loop
 sub-region-at c = search needs
 
--- src/nesting.rt:21:13
 region-at-requires : tie.Need-region-at-requires Inv-loop μ-loop
 region-at-requires c κs = search needs
 
--- src/nesting.rt:24:13
 returns : tie.Need-returns Inv-loop μ-loop
-returns c = search needs
+returns c =
+    let pre = c .before .before .before .before .before .before .pre .0 in
+    climb-stops _ (pre .ordered) _ (pre .here) (c .before .before .before .loop .number) (c .before .before .before .loop .inv) (omega (arith, last-read (c .before), c .before .before .before .before .before .before .pre .1, c .if1 .taken))
 
--- src/nesting.rt:26:27
 sub-number : tie.Need-sub-number Inv-loop μ-loop
 sub-number c = search needs
 
--- src/nesting.rt:26:26
 cast-number : tie.Need-cast-number Inv-loop μ-loop
 cast-number c = search needs
 
--- src/nesting.rt:26:18
 mul-number : tie.Need-mul-number Inv-loop μ-loop
 mul-number c = search needs
 
--- src/nesting.rt:26:18
 shared-slice-read-number : tie.Need-shared-slice-read-number Inv-loop μ-loop
-shared-slice-read-number c = search needs
+shared-slice-read-number c = let pre = c .before .before .before .before .before .before .before .pre .0 in omega (arith, pre .here, pre .room, c .before .before .before .before .loop .inv .0, c .before .before .before .loop-test)
 
--- src/nesting.rt:20:5
 loop-less : tie.Need-loop-less Inv-loop μ-loop
-loop-less c = search needs
+loop-less c = let pre = c .before .before .before .before .before .before .before .pre .0 in omega (arith, pre .known (c .before .before .before .before .loop .number - 1) (omega (arith, c .before .before .before .before .loop .inv .0, c .before .before .before .loop-test)) .earlier, c .before .before .before .loop-test)
 
--- src/nesting.rt:20:5
 loop-again : tie.Need-loop-again Inv-loop μ-loop
-loop-again c = search needs
+loop-again c =
+    let pre = c .before .before .before .before .before .before .before .pre .0 in
+    climb-steps _ (pre .ordered) _ (pre .here) (c .before .before .before .before .loop .number) _ (c .before .before .before .loop-test .taken) (c .before .before .before .before .loop .inv)
+    (omega (arith, last-read (c .before .before), c .before .before .before .before .before .before .before .pre .1, c .before .if1 .left))
+    (pre .known (c .before .before .before .before .loop .number - 1) (omega (arith, c .before .before .before .before .loop .inv .0, c .before .before .before .loop-test)))
 
--- src/nesting.rt:14:1
 returns-2 : tie.Need-returns-2 Inv-loop μ-loop
-returns-2 c = search needs
+returns-2 c =
+    let pre = c .before .before .before .before .pre .0 in
+    climb-ends _ (pre .ordered) _ (pre .here) (subst (Climbable _ _) (c .loop-test .left) (c .before .loop .inv))
 
 pub climb-spec : {M : Type 1} → statement M
 climb-spec =

@@ -1,25 +1,35 @@
+-- There is no region of the number 0; any other is the one before it in counting from 0.
+use native.Mathlib.Omega.{arith}
+use mathlib.Core.Bool.{Bool, not, _&&_}
+use mathlib.Core.Path.{sym, ap, _∙_}
+use Prim.Native.Nat.{ℕ, _-_}
+use lib.Dec.{ltb}
+use borrow.Author.Tests.{ne-eqb}
+use denote.Ref.{now}
+use Rattle.reader.specs.Family.{familyOf, region}
+use Rattle.reader.specs.Climb.{endsBefore}
+use Rattle.reader.proofs.Parsed.{regions-read, region-read, held-last}
 use borrow.Author.Needs.{needs}
 use Rattle.reader.proofs.nesting.ends_before.Statement.{statement}
 use Rattle.reader.proofs.nesting.ends_before.Tie as tie
-use Rattle.reader.proofs.nesting.ends_before.Reads as reads
-use Rattle.reader.proofs.nesting.ends_before.Lts as lts
-use Rattle.reader.proofs.family.region_at.Reads as region-at-reads
 
--- src/nesting.rt:37:9
 returns : tie.Need-returns
-returns c = search needs
+unfolding endsBefore
+returns c = rw (c .if1 .taken)
 
--- src/nesting.rt:39:29
 sub-region-at : tie.Need-sub-region-at
 sub-region-at c = search needs
 
--- src/nesting.rt:39:9
 region-at-requires : tie.Need-region-at-requires
 region-at-requires c κs = search needs
 
--- src/nesting.rt:32:1
 returns-2 : tie.Need-returns-2
-returns-2 c = search needs
+unfolding endsBefore
+returns-2 c =
+    let s = now (c .before .before .before .args .file) in
+    let k = c .before .before .before .args .number - 1 in
+    let e = c .region-at .ensures ∙ sym (region-read s k (omega (arith, regions-read s))) in
+    rw (ne-eqb (c .before .before .before .args .number) 0 (c .before .if1 .left)) (ap (λ (l : ℕ). ltb l (c .before .before .before .args .last)) (held-last _ (region (familyOf s) k) e))
 
 pub ends-before-spec : {M : Type 1} → statement M
 ends-before-spec = tie.close (tie.spec returns sub-region-at region-at-requires returns-2)

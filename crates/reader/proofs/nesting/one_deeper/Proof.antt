@@ -1,32 +1,33 @@
+-- By cases on the number.
+use Prim.Native.Nat.{ℕ, suc, _-_}
+use native.Mathlib.Omega.{arith}
+use native.Mathlib.Numerals.{add-one}
+use mathlib.Core.Path.{sym}
+use borrow.Author.Tests.{ne-eqb}
+use Rattle.reader.specs.Climb.{oneDeeper}
 use borrow.Author.Needs.{needs}
 use Rattle.reader.proofs.nesting.one_deeper.Statement.{statement}
 use Rattle.reader.proofs.nesting.one_deeper.Tie as tie
-use Rattle.reader.proofs.nesting.one_deeper.Reads as reads
-use Rattle.reader.proofs.nesting.one_deeper.Lts as lts
 
--- src/nesting.rt:72:41
 sub-result : tie.Need-sub-result
 sub-result c = search needs
 
--- src/nesting.rt:72:40
 cast-result : tie.Need-cast-result
 cast-result c = search needs
 
--- src/nesting.rt:72:33
 shared-slice-read-result : tie.Need-shared-slice-read-result
 shared-slice-read-result c = search needs
 
--- src/nesting.rt:72:33
 add-result : tie.Need-add-result
-add-result c = search needs
+add-result c = omega (arith, c .before .before .pre .1 (c .before .before .args .number - 1) (omega arith))
 
--- src/nesting.rt:67:1
 returns : tie.Need-returns
-returns c = search needs
+unfolding oneDeeper
+returns c = rw (c .if1 .taken)
 
--- src/nesting.rt:67:1
 returns-2 : tie.Need-returns-2
-returns-2 c = search needs
+unfolding oneDeeper
+returns-2 c = rw (ne-eqb (c .before .before .args .number) 0 (c .before .if1 .left), add-one)
 
 pub one-deeper-spec : {M : Type 1} → statement M
 one-deeper-spec =

@@ -1,0 +1,222 @@
+-- An accepted file holds a well-formed family, and what the check answers says so.
+use Prim.Native.Nat.{ℕ, zero, suc, _+_, _*_, _-_, _<_, _≤_}
+use native.Mathlib.Omega.{arith}
+use native.Mathlib.Numerals.{add-one}
+use mathlib.Core.Bool.{Bool, true, false, cond}
+use mathlib.Core.List.{List, [], _∷_, _++_, nil≢cons}
+use mathlib.Core.Path.{_≡_, refl, sym, ap, subst, _∙_}
+use mathlib.Core.Logic.{inl, inr, ⊎-elim}
+use lib.ListN.{length, getD, take, drop}
+use lib.Dec.{leb, eqb}
+use borrow.Author.Tests.{eq-eqb, ne-eqb, eqb-true, eqb-false}
+use Rattle.reader.specs.Bytes.{IsBytes, numberAt}
+use Rattle.reader.specs.Family as family
+use Rattle.reader.specs.Family.{Family, leaves, regionCount, region, regionAt, familyOf, mark}
+use Rattle.reader.specs.Causes.{Cause, cause1, cause2, cause3, cause4, cause5, cause6, cause7, cause8, cause9, cause10, firstCause, headerCauses, familyCauses, fileCauses, Accepted}
+use Rattle.reader.specs.WellFormed.{Ordered, WellFormed, ParentsBelow}
+use Rattle.reader.specs.declared.Checked.{Checked}
+use Rattle.reader.specs.declared.Checked.the-variants.{Family as Accepts, Refused}
+use Rattle.reader.specs.Calls.{Report, report, checked, regionPart, withParents}
+use Rattle.reader.proofs.Bools.{decided}
+use Rattle.reader.proofs.Below.{below-suc}
+use Rattle.reader.proofs.Parsed.{leaves-read, regions-read, region-read, number-fits}
+use Rattle.reader.proofs.First.{Numbered, head-clear, first-fails, join-clear, join-holds, clear-left, clear-right}
+use Rattle.reader.proofs.Judged.{OnLeaves, Before, LaidDown, marked, from-marked, peptides-counted, from-peptides-counted, leaves-counted, from-leaves-counted, regions-counted, from-regions-counted, laid-down, from-laid-down, lengths-clear, from-lengths-clear, regions-placed, from-regions-placed, regions-rise, from-regions-rise}
+use Rattle.reader.proofs.Climbing.{parents-written, nested-if-clear, clear-if-nested, shallow-if-clear, not-too-deep}
+
+-- The order of neighbours carries over to all.
+
+before-trans : (r q t : family.Region) → Before r q → Before q t → Before r t
+before-trans r q t a b =
+    ⊎-elim
+    (λ x. ⊎-elim (λ y. inl (omega arith)) (λ y. inl (omega arith)) b)
+    (λ x. ⊎-elim (λ y. inl (omega arith)) (λ y. inr (omega arith, omega arith)) b)
+    a
+
+module _ (F : Family) (rise : (k : ℕ) → k + 1 < regionCount F → Before (region F k) (region F (k + 1))) where
+  rises : (i j : ℕ) → i < j → j < regionCount F → Before (region F i) (region F j)
+  rises i zero l lj = absurd (omega arith)
+  rises i (suc j) l lj =
+      let next : Before (region F j) (region F (suc j)) = rw add-one at (rise j (omega arith)) in
+      ⊎-elim (λ e. rw e next) (λ d. before-trans (region F i) (region F j) (region F (suc j)) (rises i j d (omega arith)) next) (below-suc l)
+
+pub ordered-if-clear : (F : Family) → cause7 F ≡ false → cause8 F ≡ false → Ordered F
+ordered-if-clear F h7 h8 =
+    let placed = regions-placed F h7 in
+    let rise = rises F (regions-rise F h8) in
+    record
+    { first-some = λ k l. placed k l .first-some
+    ; first-last = λ k l. placed k l .first-last
+    ; last-leaf = λ k l. placed k l .last-leaf
+    ; rising = λ i j l lj. ⊎-elim (λ a. omega arith) (λ b. omega arith) (rise i j l lj)
+    ; falling = λ i j l lj e. ⊎-elim (λ a. absurd (omega arith)) (λ b. b .1) (rise i j l lj)
+    }
+
+-- The causes of a file, one by one.
+
+pub header-numbered : (s : List ℕ) → Numbered (headerCauses s)
+unfolding headerCauses
+header-numbered s = (omega arith, (omega arith, (omega arith, (omega arith, (omega arith, tt)))))
+
+pub record HeaderClear (s : List ℕ) : Type 0 where
+  pub no1 : cause1 s ≡ false
+  pub no2 : cause2 (familyOf s) ≡ false
+  pub no3 : cause3 (familyOf s) ≡ false
+  pub no4 : cause4 (familyOf s) ≡ false
+  pub no5 : cause5 s ≡ false
+
+pub header-clear : (s : List ℕ) → firstCause (headerCauses s) ≡ 0 → HeaderClear s
+unfolding headerCauses
+header-clear s h =
+    let a = head-clear _ _ (omega arith) h in
+    let b = head-clear _ _ (omega arith) (a .1) in
+    let c = head-clear _ _ (omega arith) (b .1) in
+    let d = head-clear _ _ (omega arith) (c .1) in
+    let e = head-clear _ _ (omega arith) (d .1) in
+    record { no1 = a .0; no2 = b .0; no3 = c .0; no4 = d .0; no5 = e .0 }
+
+pub record FamilyClear (F : Family) : Type 0 where
+  pub no6 : cause6 F ≡ false
+  pub no7 : cause7 F ≡ false
+  pub no8 : cause8 F ≡ false
+  pub no9 : cause9 F ≡ false
+  pub no10 : cause10 F ≡ false
+
+pub family-clear : (F : Family) → firstCause (familyCauses F) ≡ 0 → FamilyClear F
+unfolding familyCauses
+family-clear F h =
+    let a = head-clear _ _ (omega arith) h in
+    let b = head-clear _ _ (omega arith) (a .1) in
+    let c = head-clear _ _ (omega arith) (b .1) in
+    let d = head-clear _ _ (omega arith) (c .1) in
+    let e = head-clear _ _ (omega arith) (d .1) in
+    record { no6 = a .0; no7 = b .0; no8 = c .0; no9 = d .0; no10 = e .0 }
+
+pub header-none : (s : List ℕ) → HeaderClear s → firstCause (headerCauses s) ≡ 0
+unfolding headerCauses firstCause
+header-none s h = rw (h .no1, h .no2, h .no3, h .no4, h .no5)
+
+pub family-none : (F : Family) → FamilyClear F → firstCause (familyCauses F) ≡ 0
+unfolding familyCauses firstCause
+family-none F h = rw (h .no6, h .no7, h .no8, h .no9, h .no10)
+
+module _ (s : List ℕ) where
+  pub file-header : (firstCause (headerCauses s) ≡ 0 → ⊥) → firstCause (fileCauses s) ≡ firstCause (headerCauses s)
+  unfolding fileCauses
+  file-header h = join-holds (headerCauses s) (familyCauses (familyOf s)) h
+
+  pub file-family : firstCause (headerCauses s) ≡ 0 → firstCause (fileCauses s) ≡ firstCause (familyCauses (familyOf s))
+  unfolding fileCauses
+  file-family h = join-clear (headerCauses s) (familyCauses (familyOf s)) (header-numbered s) h
+
+  pub accepted-header : Accepted s → HeaderClear s
+  unfolding fileCauses
+  accepted-header h = header-clear s (clear-left (headerCauses s) (familyCauses (familyOf s)) (header-numbered s) h)
+
+  pub accepted-family : Accepted s → FamilyClear (familyOf s)
+  unfolding fileCauses
+  accepted-family h = family-clear (familyOf s) (clear-right (headerCauses s) (familyCauses (familyOf s)) (header-numbered s) h)
+
+  z-read : IsBytes s → (k : ℕ) → k < regionCount (familyOf s) → region (familyOf s) k .z < 65536
+  unfolding regionAt
+  z-read bytes k l = rw (region-read s k (omega (arith, regions-read s))) (number-fits s bytes _)
+
+  -- An accepted file holds a well-formed family.
+  pub well-formed : IsBytes s → Accepted s → WellFormed (familyOf s)
+  well-formed bytes h =
+      let F : Family = familyOf s in
+      let head = accepted-header h in
+      let fam = accepted-family h in
+      let ordered = ordered-if-clear F (fam .no7) (fam .no8) in
+      record
+      { peptides-some = peptides-counted F (head .no2) .0
+      ; peptides-most = peptides-counted F (head .no2) .1
+      ; leaves-some = leaves-counted F (head .no3) .0
+      ; leaves-most = leaves-counted F (head .no3) .1
+      ; regions-most = regions-counted F (head .no4)
+      ; lengths-some = lengths-clear F (fam .no6) .0
+      ; lengths-sum = lengths-clear F (fam .no6) .1
+      ; ordered = ordered
+      ; nested = nested-if-clear F ordered (fam .no9)
+      ; shallow = shallow-if-clear F (fam .no10)
+      ; z-fits = z-read bytes
+      }
+
+-- What the check answers.
+
+module _ (s : List ℕ) where
+  pub reports-refused : (n : ℕ) → n ≡ firstCause (fileCauses s) → (n ≡ 0 → ⊥) → report (Refused n) ≡ checked s
+  unfolding report checked
+  reports-refused n e h = rw (← e, ne-eqb n 0 h)
+
+  pub reports-accepted :
+      (m n k : ℕ) → Accepted s → m ≡ familyOf s .peptides → n ≡ leaves (familyOf s) → k ≡ regionCount (familyOf s)
+      → report (Accepts m n k) ≡ checked s
+  unfolding report checked
+  reports-accepted m n k h a b c = rw (h, a, b, c)
+
+  checked-accepted : Accepted s → checked s ≡ record { number = 0; values = familyOf s .peptides ∷ leaves (familyOf s) ∷ regionCount (familyOf s) ∷ [] }
+  unfolding checked
+  checked-accepted h = rw h
+
+  checked-refused : (firstCause (fileCauses s) ≡ 0 → ⊥) → checked s ≡ record { number = firstCause (fileCauses s); values = [] }
+  unfolding checked
+  checked-refused h = rw (ne-eqb (firstCause (fileCauses s)) 0 h)
+
+  -- what a caller learns from each answer
+  pub learns-refused : (n : ℕ) → report (Refused n) ≡ checked s → (n ≡ firstCause (fileCauses s)) × (n ≡ 0 → ⊥)
+  unfolding report
+  learns-refused n h =
+      ⊎-elim
+      (λ t. absurd (nil≢cons (ap (λ (r : Report). r .values) (h ∙ checked-accepted (eqb-true (firstCause (fileCauses s)) 0 t)))))
+      (λ f.
+        let some = eqb-false (firstCause (fileCauses s)) 0 f in
+        let e : n ≡ firstCause (fileCauses s) = ap (λ (r : Report). r .number) (h ∙ checked-refused some) in
+        (e, λ z. some (sym e ∙ z)))
+      (decided (eqb (firstCause (fileCauses s)) 0))
+
+  pub learns-accepted :
+      (m n k : ℕ) → report (Accepts m n k) ≡ checked s
+      → record { accepted : Accepted s; peptides : m ≡ familyOf s .peptides; leaves : n ≡ family.leaves (familyOf s); regions : k ≡ regionCount (familyOf s) }
+  unfolding report
+  learns-accepted m n k h =
+      ⊎-elim
+      (λ t.
+        let a : Accepted s = eqb-true (firstCause (fileCauses s)) 0 t in
+        let e = ap (λ (r : Report). r .values) (h ∙ checked-accepted a) in
+        record { accepted = a; peptides = cc; leaves = cc; regions = cc })
+      (λ f. absurd (nil≢cons (sym (ap (λ (r : Report). r .values) (h ∙ checked-refused (eqb-false (firstCause (fileCauses s)) 0 f))))))
+      (decided (eqb (firstCause (fileCauses s)) 0))
+
+  -- an accepted file has K at most 8,191, and is as long as its counts say
+  pub few-regions : HeaderClear s → regionCount (familyOf s) ≤ 8191
+  few-regions h =
+      let F : Family = familyOf s in
+      omega (arith, peptides-counted F (h .no2), leaves-counted F (h .no3), regions-counted F (h .no4))
+
+  pub whole-length : HeaderClear s → length s ≡ 16 + 2 * leaves (familyOf s) + 6 * regionCount (familyOf s)
+  whole-length h = omega (arith, laid-down s (h .no5) .whole, leaves-read s, regions-read s)
+
+  -- the part of the file with the regions
+  pub part-accepted : Accepted s → regionPart s ≡ drop (16 + 2 * leaves (familyOf s)) s
+  unfolding regionPart
+  part-accepted h = rw h
+
+  pub part-refused : (firstCause (fileCauses s) ≡ 0 → ⊥) → regionPart s ≡ []
+  unfolding regionPart
+  part-refused h = rw (ne-eqb (firstCause (fileCauses s)) 0 h)
+
+  -- a lent list with the parents
+  pub parents-refused : (firstCause (fileCauses s) ≡ 0 → ⊥) → (out : List ℕ) → withParents s out ≡ out
+  unfolding withParents
+  parents-refused h out = rw (ne-eqb (firstCause (fileCauses s)) 0 h)
+
+  pub parents-accepted :
+      Accepted s → (P out : List ℕ) → ParentsBelow (familyOf s) P (regionCount (familyOf s)) → regionCount (familyOf s) ≤ length P
+      → withParents s out ≡ cond (leb (regionCount (familyOf s)) (length out)) (take (regionCount (familyOf s)) P ++ drop (regionCount (familyOf s)) out) out
+  unfolding withParents
+  parents-accepted h P out known room =
+      let F : Family = familyOf s in
+      let clear = accepted-family s h in
+      let o = ordered-if-clear F (clear .no7) (clear .no8) in
+      rw (h, parents-written F o (nested-if-clear F o (clear .no9)) P known room)

@@ -1,0 +1,79 @@
+-- The loop has copied the first i numbers.
+use Prim.Native.Nat.{ℕ, _≤_, _-_}
+use native.Mathlib.Omega.{arith}
+use mathlib.Core.List.{List, _++_}
+use mathlib.Core.Path.{_≡_, refl, sym, ap, _∙_}
+use lib.ListN.{length, take, drop, set, getD, length-set}
+use borrow.Author.Tests.{le-leb, lt-leb}
+use denote.Ref.{now}
+use Rattle.reader.proofs.Lists.{copy-more}
+use borrow.Author.Needs.{needs}
+use Rattle.reader.proofs.copy_front.Statement.{statement}
+use Rattle.reader.proofs.copy_front.Tie as tie
+
+abbrev Inv-loop : tie.InvT-loop
+Inv-loop from n to₀ i₀ to i = (i ≤ n) × (length to ≡ length to₀) × (to ≡ take i from ++ drop i to₀)
+
+abbrev μ-loop : tie.MeasureT-loop
+μ-loop from n to₀ i₀ to i = n - i
+
+loop-holds : tie.Need-loop-holds Inv-loop μ-loop
+loop-holds c = (omega arith, refl, refl)
+
+mul-to : tie.Need-mul-to Inv-loop μ-loop
+mul-to c = search needs
+
+shared-slice-read-to : tie.Need-shared-slice-read-to Inv-loop μ-loop
+shared-slice-read-to c = search needs
+
+mul-to-2 : tie.Need-mul-to-2 Inv-loop μ-loop
+mul-to-2 c = search needs
+
+slice-write-to : tie.Need-slice-write-to Inv-loop μ-loop
+slice-write-to c = search needs
+
+add-i : tie.Need-add-i Inv-loop μ-loop
+add-i c = search needs
+
+loop-less : tie.Need-loop-less Inv-loop μ-loop
+loop-less c = search needs
+
+loop-again : tie.Need-loop-again Inv-loop μ-loop
+loop-again c =
+    let inv = c .before .before .loop .inv in
+    let i = c .before .before .loop .i in
+    let from = now (c .before .before .before .before .args .from) in
+    (omega arith,
+    simp length-set (inv .1),
+    ap (λ (l : List ℕ). set l i (getD from i 0)) (inv .2)
+    ∙ copy-more from (now (c .before .before .before .before .args .to)) i (omega (arith, c .before .before .before .before .pre)) (omega (arith, c .before .before .before .if1 .taken)))
+
+same-length : tie.Need-same-length Inv-loop μ-loop
+same-length c = search needs
+
+returns : tie.Need-returns Inv-loop μ-loop
+returns c =
+    let a = c .before .before .before .args in
+    let end : c .before .loop .i ≡ a .n = omega arith in
+    rw (le-leb (a .n) (length (now (a .to))) (c .before .before .if1 .taken)) (rw end at (c .before .loop .inv .2))
+
+returns-2 : tie.Need-returns-2 Inv-loop μ-loop
+returns-2 c = rw (lt-leb (c .before .args .n) (length (now (c .before .args .to))) (c .if1 .left))
+
+pub copy-front-spec : {M : Type 1} → statement M
+copy-front-spec =
+    tie.close
+    (tie.spec
+    Inv-loop
+    μ-loop
+    loop-holds
+    mul-to
+    shared-slice-read-to
+    mul-to-2
+    slice-write-to
+    add-i
+    loop-less
+    loop-again
+    same-length
+    returns
+    returns-2)
