@@ -1,3 +1,6 @@
 -- The definitions that the promises of `bounds` are written with.
 pub mod Ranges
 pub mod Bound
+pub mod Selections
+pub mod Curves
+pub mod Calls

@@ -17,10 +17,10 @@ use Rattle.reader.specs.WellFormed.{Ordered, WellFormed, ParentsBelow}
 use Rattle.reader.specs.declared.Checked.{Checked}
 use Rattle.reader.specs.declared.Checked.the-variants.{Family as Accepts, Refused}
 use Rattle.reader.specs.Calls.{Report, report, checked, regionPart, withParents}
-use Rattle.reader.proofs.Bools.{decided}
+use Rattle.reader.proofs.Bools.{test}
 use Rattle.reader.proofs.Below.{below-suc}
 use Rattle.reader.proofs.Parsed.{leaves-read, regions-read, region-read, number-fits}
-use Rattle.reader.proofs.First.{Numbered, head-clear, first-fails, join-clear, join-holds, clear-left, clear-right}
+use Rattle.reader.proofs.First.{Numbered, head-clear, join-clear, join-holds, clear-left, clear-right, answers, declines, learns-number, learns-values}
 use Rattle.reader.proofs.Judged.{OnLeaves, Before, LaidDown, marked, from-marked, peptides-counted, from-peptides-counted, leaves-counted, from-leaves-counted, regions-counted, from-regions-counted, laid-down, from-laid-down, lengths-clear, from-lengths-clear, regions-placed, from-regions-placed, regions-rise, from-regions-rise}
 use Rattle.reader.proofs.Climbing.{parents-written, nested-if-clear, clear-if-nested, shallow-if-clear, not-too-deep}
 
@@ -44,12 +44,12 @@ pub ordered-if-clear : (F : Family) → cause7 F ≡ false → cause8 F ≡ fals
 ordered-if-clear F h7 h8 =
     let placed = regions-placed F h7 in
     let rise = rises F (regions-rise F h8) in
-    record
-    { first-some = λ k l. placed k l .first-some
-    ; first-last = λ k l. placed k l .first-last
-    ; last-leaf = λ k l. placed k l .last-leaf
-    ; rising = λ i j l lj. ⊎-elim (λ a. omega arith) (λ b. omega arith) (rise i j l lj)
-    ; falling = λ i j l lj e. ⊎-elim (λ a. absurd (omega arith)) (λ b. b .1) (rise i j l lj)
+    record {
+      first-some = λ k l. placed k l .first-some;
+      first-last = λ k l. placed k l .first-last;
+      last-leaf = λ k l. placed k l .last-leaf;
+      rising = λ i j l lj. ⊎-elim (λ a. omega arith) (λ b. omega arith) (rise i j l lj);
+      falling = λ i j l lj e. ⊎-elim (λ a. absurd (omega arith)) (λ b. b .1) (rise i j l lj);
     }
 
 -- The causes of a file, one by one.
@@ -128,18 +128,18 @@ module _ (s : List ℕ) where
       let head = accepted-header h in
       let fam = accepted-family h in
       let ordered = ordered-if-clear F (fam .no7) (fam .no8) in
-      record
-      { peptides-some = peptides-counted F (head .no2) .0
-      ; peptides-most = peptides-counted F (head .no2) .1
-      ; leaves-some = leaves-counted F (head .no3) .0
-      ; leaves-most = leaves-counted F (head .no3) .1
-      ; regions-most = regions-counted F (head .no4)
-      ; lengths-some = lengths-clear F (fam .no6) .0
-      ; lengths-sum = lengths-clear F (fam .no6) .1
-      ; ordered = ordered
-      ; nested = nested-if-clear F ordered (fam .no9)
-      ; shallow = shallow-if-clear F (fam .no10)
-      ; z-fits = z-read bytes
+      record {
+        peptides-some = peptides-counted F (head .no2) .0;
+        peptides-most = peptides-counted F (head .no2) .1;
+        leaves-some = leaves-counted F (head .no3) .0;
+        leaves-most = leaves-counted F (head .no3) .1;
+        regions-most = regions-counted F (head .no4);
+        lengths-some = lengths-clear F (fam .no6) .0;
+        lengths-sum = lengths-clear F (fam .no6) .1;
+        ordered = ordered;
+        nested = nested-if-clear F ordered (fam .no9);
+        shallow = shallow-if-clear F (fam .no10);
+        z-fits = z-read bytes;
       }
 
 -- What the check answers.
@@ -147,46 +147,27 @@ module _ (s : List ℕ) where
 module _ (s : List ℕ) where
   pub reports-refused : (n : ℕ) → n ≡ firstCause (fileCauses s) → (n ≡ 0 → ⊥) → report (Refused n) ≡ checked s
   unfolding report checked
-  reports-refused n e h = rw (← e, ne-eqb n 0 h)
+  reports-refused n e h = rw e (sym (declines (fileCauses s) (λ z. h (e ∙ z)) _))
 
   pub reports-accepted :
       (m n k : ℕ) → Accepted s → m ≡ familyOf s .peptides → n ≡ leaves (familyOf s) → k ≡ regionCount (familyOf s)
       → report (Accepts m n k) ≡ checked s
   unfolding report checked
-  reports-accepted m n k h a b c = rw (h, a, b, c)
-
-  checked-accepted : Accepted s → checked s ≡ record { number = 0; values = familyOf s .peptides ∷ leaves (familyOf s) ∷ regionCount (familyOf s) ∷ [] }
-  unfolding checked
-  checked-accepted h = rw h
-
-  checked-refused : (firstCause (fileCauses s) ≡ 0 → ⊥) → checked s ≡ record { number = firstCause (fileCauses s); values = [] }
-  unfolding checked
-  checked-refused h = rw (ne-eqb (firstCause (fileCauses s)) 0 h)
+  reports-accepted m n k h a b c = rw (a, b, c) (sym (answers (fileCauses s) h _))
 
   -- what a caller learns from each answer
   pub learns-refused : (n : ℕ) → report (Refused n) ≡ checked s → (n ≡ firstCause (fileCauses s)) × (n ≡ 0 → ⊥)
-  unfolding report
-  learns-refused n h =
-      ⊎-elim
-      (λ t. absurd (nil≢cons (ap (λ (r : Report). r .values) (h ∙ checked-accepted (eqb-true (firstCause (fileCauses s)) 0 t)))))
-      (λ f.
-        let some = eqb-false (firstCause (fileCauses s)) 0 f in
-        let e : n ≡ firstCause (fileCauses s) = ap (λ (r : Report). r .number) (h ∙ checked-refused some) in
-        (e, λ z. some (sym e ∙ z)))
-      (decided (eqb (firstCause (fileCauses s)) 0))
+  unfolding report checked
+  learns-refused n h = learns-number (fileCauses s) n _ _ h
 
   pub learns-accepted :
       (m n k : ℕ) → report (Accepts m n k) ≡ checked s
       → record { accepted : Accepted s; peptides : m ≡ familyOf s .peptides; leaves : n ≡ family.leaves (familyOf s); regions : k ≡ regionCount (familyOf s) }
-  unfolding report
+  unfolding report checked
   learns-accepted m n k h =
-      ⊎-elim
-      (λ t.
-        let a : Accepted s = eqb-true (firstCause (fileCauses s)) 0 t in
-        let e = ap (λ (r : Report). r .values) (h ∙ checked-accepted a) in
-        record { accepted = a; peptides = cc; leaves = cc; regions = cc })
-      (λ f. absurd (nil≢cons (sym (ap (λ (r : Report). r .values) (h ∙ checked-refused (eqb-false (firstCause (fileCauses s)) 0 f))))))
-      (decided (eqb (firstCause (fileCauses s)) 0))
+      let v = learns-values (fileCauses s) 0 m (n ∷ k ∷ []) _ h in
+      let e = v .1 in
+      record { accepted = v .0; peptides = cc; leaves = cc; regions = cc }
 
   -- an accepted file has K at most 8,191, and is as long as its counts say
   pub few-regions : HeaderClear s → regionCount (familyOf s) ≤ 8191

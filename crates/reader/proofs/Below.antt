@@ -9,7 +9,7 @@ use mathlib.Core.Logic.{_⊎_, inl, inr, ⊎-elim}
 use lib.Dec.{eqb}
 use borrow.Author.Tests.{eqb-true, eqb-false, eq-eqb, ne-eqb}
 use Rattle.reader.specs.Lists.{someBelow, countBelow, firstBelow}
-use Rattle.reader.proofs.Bools.{decided, clash, or-left, or-right, or-either, or-neither, or-fails-l, or-fails-r}
+use Rattle.reader.proofs.Bools.{test, clash, or-l, or-r, or-either, or-neither, or-fails-l, or-fails-r}
 
 pub below-suc : {k n : ℕ} → k < suc n → (k ≡ n) ⊎ (k < n)
 below-suc h = eq-or-lt-of-le (le-of-suc-le-suc h)
@@ -29,12 +29,12 @@ module _ (p : ℕ → Bool) where
   some-at zero k h t = absurd (not-suc-le-zero h)
   some-at (suc n) k h t =
       ⊎-elim
-      (λ e. or-right (someBelow n p) (p n) (rw (← e) t))
-      (λ l. or-left (someBelow n p) (p n) (some-at n k l t))
+      (λ e. or-r (someBelow n p) (p n) (rw (← e) t))
+      (λ l. or-l (someBelow n p) (p n) (some-at n k l t))
       (below-suc h)
 
   pub none-at : (n k : ℕ) → someBelow n p ≡ false → k < n → p k ≡ false
-  none-at n k h l = ⊎-elim (λ t. absurd (clash (some-at n k l t) h)) (λ f. f) (decided (p k))
+  none-at n k h l = ⊎-elim (λ t. absurd (clash (some-at n k l t) h)) (λ f. f) (test (p k))
 
   pub none-below : (n : ℕ) → ((k : ℕ) → k < n → p k ≡ false) → someBelow n p ≡ false
   unfolding someBelow

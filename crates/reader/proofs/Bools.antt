@@ -3,22 +3,22 @@ use mathlib.Core.Bool.{Bool, true, false, not, _&&_, _||_, true≢false}
 use mathlib.Core.Path.{_≡_, refl, sym, _∙_}
 use mathlib.Core.Logic.{_⊎_, inl, inr}
 
--- a test passes or fails
-pub decided : (b : Bool) → (b ≡ true) ⊎ (b ≡ false)
-decided true = inl refl
-decided false = inr refl
+-- a test passes or refuted
+pub test : (b : Bool) → (b ≡ true) ⊎ (b ≡ false)
+test true = inl refl
+test false = inr refl
 
 pub clash : {b : Bool} → b ≡ true → b ≡ false → ⊥
 clash t f = true≢false (sym t ∙ f)
 
--- a test that cannot fail passes, and one that cannot pass fails
+-- a test that cannot fail passes, and one that cannot pass refuted
 pub passes : (b : Bool) → (b ≡ false → ⊥) → b ≡ true
 passes true h = refl
 passes false h = absurd (h refl)
 
-pub fails : (b : Bool) → (b ≡ true → ⊥) → b ≡ false
-fails true h = absurd (h refl)
-fails false h = refl
+pub refuted : (b : Bool) → (b ≡ true → ⊥) → b ≡ false
+refuted true h = absurd (h refl)
+refuted false h = refl
 
 pub and-l : (a b : Bool) → a && b ≡ true → a ≡ true
 and-l true b h = refl
@@ -32,19 +32,25 @@ pub and-both : (a b : Bool) → a ≡ true → b ≡ true → a && b ≡ true
 and-both true b h k = k
 and-both false b h k = h
 
+-- two tests are equal if each gives the other
+pub both-ways : (a b : Bool) → (a ≡ true → b ≡ true) → (b ≡ true → a ≡ true) → a ≡ b
+both-ways true b f g = sym (f refl)
+both-ways false b f g = sym (refuted b (λ e. clash (g e) refl))
+
+-- `search ands` proves one conjunction of tests from another
 pub ruleset ands = (and-l, and-r, and-both)
 
 pub and-fails : (a b : Bool) → a && b ≡ false → (a ≡ false) ⊎ (b ≡ false)
 and-fails true b h = inr h
 and-fails false b h = inl h
 
-pub or-left : (a b : Bool) → a ≡ true → a || b ≡ true
-or-left true b h = refl
-or-left false b h = absurd (true≢false (sym h))
+pub or-l : (a b : Bool) → a ≡ true → a || b ≡ true
+or-l true b h = refl
+or-l false b h = absurd (true≢false (sym h))
 
-pub or-right : (a b : Bool) → b ≡ true → a || b ≡ true
-or-right true b h = refl
-or-right false b h = h
+pub or-r : (a b : Bool) → b ≡ true → a || b ≡ true
+or-r true b h = refl
+or-r false b h = h
 
 pub or-either : (a b : Bool) → a || b ≡ true → (a ≡ true) ⊎ (b ≡ true)
 or-either true b h = inl h

@@ -17,7 +17,7 @@ use Rattle.reader.specs.Nesting.{shareLeaf, within, crossing, inside, re
 use Rattle.reader.specs.Causes.{cause9, cause10}
 use Rattle.reader.specs.WellFormed.{Ordered, NestedBelow, IsParent, ParentsBelow}
 use Rattle.reader.specs.Climb.{Climbed, endsBefore, oneDeeper}
-use Rattle.reader.proofs.Bools.{decided, clash, passes, fails, and-l, and-r, and-both, and-fails, not-fails, not-passes}
+use Rattle.reader.proofs.Bools.{test, clash, passes, refuted, and-l, and-r, and-both, and-fails, not-fails, not-passes}
 use Rattle.reader.proofs.Lists.{length-tabulate, getD-tabulate}
 use Rattle.reader.proofs.Below.{none-at, none-below, some-at, first-at, first-none, count-same, count-none, count-one-more}
 
@@ -30,9 +30,9 @@ pub record Within (r q : Region) : Type 0 where
 pub is-within : (r q : Region) → within r q ≡ true → Within r q
 unfolding within
 is-within r q h =
-    record
-    { left = leb-true (q .first) (r .first) (and-l (leb (q .first) (r .first)) (leb (r .last) (q .last)) h)
-    ; right = leb-true (r .last) (q .last) (and-r (leb (q .first) (r .first)) (leb (r .last) (q .last)) h)
+    record {
+      left = leb-true (q .first) (r .first) (and-l (leb (q .first) (r .first)) (leb (r .last) (q .last)) h);
+      right = leb-true (r .last) (q .last) (and-r (leb (q .first) (r .first)) (leb (r .last) (q .last)) h);
     }
 
 pub from-within : (r q : Region) → Within r q → within r q ≡ true
@@ -40,7 +40,7 @@ unfolding within
 from-within r q w = and-both (leb (q .first) (r .first)) (leb (r .last) (q .last)) (le-leb (q .first) (r .first) (w .left)) (le-leb (r .last) (q .last) (w .right))
 
 pub not-within : (r q : Region) → (Within r q → ⊥) → within r q ≡ false
-not-within r q h = fails (within r q) (λ t. h (is-within r q t))
+not-within r q h = refuted (within r q) (λ t. h (is-within r q t))
 
 module _ (F : Family) (o : Ordered F) where
   -- In file order the k-th region is inside the i-th one exactly when it comes later and does not end later.
@@ -50,17 +50,18 @@ module _ (F : Family) (o : Ordered F) where
       let w = is-within (region F k) (region F i) (and-l (within (region F k) (region F i)) (not (within (region F i) (region F k))) h) in
       let n = not-true (within (region F i) (region F k)) (and-r (within (region F k) (region F i)) (not (within (region F i) (region F k))) h) in
       let back : (region F k .first ≤ region F i .first → region F i .last ≤ region F k .last → ⊥) =
-            λ a b. clash (from-within (region F i) (region F k) (record { left = a; right = b })) n in
-      (⊎-elim
-      (λ t. ltb-true i k t)
-      (λ f.
-        absurd
-        (⊎-elim
-        (λ e. back (rw e (omega arith)) (rw e (omega arith)))
-        (λ l. back (o .rising k i l li) (absurd-last k i l li w back))
-        (eq-or-lt-of-le (ltb-false i k f))))
-      (decided (ltb i k)),
-      w .right)
+      λ a b. clash (from-within (region F i) (region F k) (record { left = a; right = b })) n in (
+        ⊎-elim
+            (λ t. ltb-true i k t)
+            (λ f.
+            absurd
+            (⊎-elim
+            (λ e. back (rw e (omega arith)) (rw e (omega arith)))
+            (λ l. back (o .rising k i l li) (absurd-last k i l li w back))
+            (eq-or-lt-of-le (ltb-false i k f))))
+            (test (ltb i k)),
+        w .right,
+      )
     where
       absurd-last : (k i : ℕ) → k < i → i < regionCount F → Within (region F k) (region F i) → (region F k .first ≤ region F i .first → region F i .last ≤ region F k .last → ⊥) → region F i .last ≤ region F k .last
       absurd-last k i l li w back = absurd (omega (arith, o .falling k i l li (omega (arith, o .rising k i l li))))
@@ -88,27 +89,27 @@ module _ (F : Family) (o : Ordered F) where
   pub later-not-crossing : (i k : ℕ) → i < k → k < regionCount F → (region F i .last < region F k .first) ⊎ (region F k .last ≤ region F i .last) → crossing (region F i) (region F k) ≡ false
   unfolding crossing shareLeaf
   later-not-crossing i k l lk h =
-      fails (crossing (region F i) (region F k))
+      refuted (crossing (region F i) (region F k))
       (λ t.
-        let s = shareLeaf (region F i) (region F k) in
-        let a = not (within (region F i) (region F k)) in
-        let b = not (within (region F k) (region F i)) in
-        ⊎-elim
-        (λ d. omega (arith, leb-true (region F k .first) (region F i .last) (and-r (leb (region F i .first) (region F k .last)) (leb (region F k .first) (region F i .last)) (and-l s a (and-l (s && a) b t)))))
-        (λ d. clash (from-within (region F k) (region F i) (record { left = o .rising i k l lk; right = d })) (not-true (within (region F k) (region F i)) (and-r (s && a) b t)))
-        h)
+      let s = shareLeaf (region F i) (region F k) in
+      let a = not (within (region F i) (region F k)) in
+      let b = not (within (region F k) (region F i)) in
+      ⊎-elim
+      (λ d. omega (arith, leb-true (region F k .first) (region F i .last) (and-r (leb (region F i .first) (region F k .last)) (leb (region F k .first) (region F i .last)) (and-l s a (and-l (s && a) b t)))))
+      (λ d. clash (from-within (region F k) (region F i) (record { left = o .rising i k l lk; right = d })) (not-true (within (region F k) (region F i)) (and-r (s && a) b t)))
+      h)
 
   pub nested-if-clear : cause9 F ≡ false → NestedBelow F (regionCount F)
   unfolding cause9
   nested-if-clear h i j l lj =
       ⊎-elim
       (λ t.
-        ⊎-elim
-        (λ u. absurd (clash (later-crossing i j l lj (leb-true (region F j .first) (region F i .last) t) (ltb-true (region F i .last) (region F j .last) u)) none))
-        (λ u. inr (ltb-false (region F i .last) (region F j .last) u))
-        (decided (ltb (region F i .last) (region F j .last))))
+      ⊎-elim
+      (λ u. absurd (clash (later-crossing i j l lj (leb-true (region F j .first) (region F i .last) t) (ltb-true (region F i .last) (region F j .last) u)) none))
+      (λ u. inr (ltb-false (region F i .last) (region F j .last) u))
+      (test (ltb (region F i .last) (region F j .last))))
       (λ f. inl (leb-false (region F j .first) (region F i .last) f))
-      (decided (leb (region F j .first) (region F i .last)))
+      (test (leb (region F j .first) (region F i .last)))
     where
       none : crossing (region F i) (region F j) ≡ false
       none = none-at (λ i. crossing (region F i) (region F j)) j i (none-at (λ j. someBelow j (λ i. crossing (region F i) (region F j))) (regionCount F) j h lj) l
@@ -139,30 +140,33 @@ Climbable F k c = (c ≤ k) × ((i : ℕ) → i < k → region F k .first ≤ re
 
 module _ (F : Family) (o : Ordered F) (k : ℕ) (lk : k < regionCount F) where
   pub climb-starts : NestedBelow F k → Climbable F k k
-  climb-starts nested =
-      (omega arith,
-      λ i l h.
-        (l,
-        ⊎-elim
-        (λ e. rw e (omega arith))
-        (λ d. ⊎-elim (λ a. absurd (omega (arith, o .rising (k - 1) k (omega arith) lk))) (λ b. b) (nested i (k - 1) d (omega arith)))
-        (eq-or-lt-of-le (last-below i k l))))
+  climb-starts nested = (
+    omega arith,
+    λ i l h. (
+      l,
+      ⊎-elim
+          (λ e. rw e (omega arith))
+          (λ d. ⊎-elim (λ a. absurd (omega (arith, o .rising (k - 1) k (omega arith) lk))) (λ b. b) (nested i (k - 1) d (omega arith)))
+          (eq-or-lt-of-le (last-below i k l)),
+    ),
+  )
 
   pub climb-steps :
       (n p : ℕ) → (n ≡ 0 → ⊥) → Climbable F k n → region F (n - 1) .last < region F k .first → IsParent F (n - 1) p → Climbable F k p
-  climb-steps n p some inv ends parent-n =
-      (omega (arith, inv .0, parent-n .earlier),
-      λ i l h. let at = inv .1 i l h in parent-n .innermost i (earlier i h (at .0)) (at .1))
+  climb-steps n p some inv ends parent-n = (
+    omega (arith, inv .0, parent-n .earlier),
+    λ i l h. let at = inv .1 i l h in parent-n .innermost i (earlier i h (at .0)) (at .1),
+  )
     where
       earlier : (i : ℕ) → region F k .first ≤ region F i .last → i < n → i < n - 1
       earlier i h l = ⊎-elim (λ e. absurd (omega (arith, rw e at h))) (λ d. d) (eq-or-lt-of-le (last-below i n l))
 
   pub climb-stops : (n : ℕ) → Climbable F k n → region F k .first ≤ region F (n - 1) .last → Climbed F k n
   climb-stops n inv h =
-      record
-      { earlier = inv .0
-      ; reaches = λ i e. subst (λ (t : ℕ). region F k .first ≤ region F t .last) (omega arith) h
-      ; innermost = inv .1
+      record {
+        earlier = inv .0;
+        reaches = λ i e. subst (λ (t : ℕ). region F k .first ≤ region F t .last) (omega arith) h;
+        innermost = inv .1;
       }
 
   pub climb-ends : Climbable F k 0 → Climbed F k 0
@@ -192,10 +196,10 @@ module _ (F : Family) (o : Ordered F) (k : ℕ) (lk : k < regionCount F) where
 
   pub climbed-parent : (c : ℕ) → Climbed F k c → endsBefore F c (region F k .last) ≡ false → IsParent F k c
   climbed-parent c d h =
-      record
-      { earlier = d .earlier
-      ; around = λ j e. subst (λ (t : ℕ). region F k .last ≤ region F t .last) (omega arith) (last-reaches c j (omega arith) h)
-      ; innermost = λ i l b. d .innermost i l (omega (arith, o .first-last k lk))
+      record {
+        earlier = d .earlier;
+        around = λ j e. subst (λ (t : ℕ). region F k .last ≤ region F t .last) (omega arith) (last-reaches c j (omega arith) h);
+        innermost = λ i l b. d .innermost i l (omega (arith, o .first-last k lk));
       }
 
   pub climbed-nested :
@@ -205,7 +209,7 @@ module _ (F : Family) (o : Ordered F) (k : ℕ) (lk : k < regionCount F) where
       ⊎-elim
       (λ t. let at = d .innermost i l (leb-true (region F k .first) (region F i .last) t) in inr (omega (arith, at .1, last-reaches c i (at .0) h)))
       (λ f. inl (leb-false (region F k .first) (region F i .last) f))
-      (decided (leb (region F k .first) (region F i .last)))
+      (test (leb (region F k .first) (region F i .last)))
 
 -- one more region, with its parent written
 pub nested-more :
@@ -232,21 +236,21 @@ module _ (F : Family) (o : Ordered F) (nested : NestedBelow F (regionCount F)) w
   around-parent k j lk p i li apart =
       ⊎-elim
       (λ t.
-        let at = inside-later F o k i lk li t in
-        let inn = p .innermost i (at .0) (at .1) in
-        t ∙ sym (later-inside F o j i (omega (arith, inn .0)) (omega (arith, p .earlier)) (subst (λ (n : ℕ). region F n .last ≤ region F i .last) (omega arith) (inn .1))))
+      let at = inside-later F o k i lk li t in
+      let inn = p .innermost i (at .0) (at .1) in
+      t ∙ sym (later-inside F o j i (omega (arith, inn .0)) (omega (arith, p .earlier)) (subst (λ (n : ℕ). region F n .last ≤ region F i .last) (omega arith) (inn .1))))
       (λ f.
-        f
-        ∙ sym (fails (inside (region F j) (region F i))
-        (λ t.
-          let at = inside-later F o j i (omega (arith, p .earlier)) li t in
-          clash (later-inside F o k i (omega (arith, at .0, p .earlier)) lk (omega (arith, at .1, p .around j refl))) f)))
-      (decided (inside (region F k) (region F i)))
+      f
+      ∙ sym (refuted (inside (region F j) (region F i))
+      (λ t.
+      let at = inside-later F o j i (omega (arith, p .earlier)) li t in
+      clash (later-inside F o k i (omega (arith, at .0, p .earlier)) lk (omega (arith, at .1, p .around j refl))) f)))
+      (test (inside (region F k) (region F i)))
 
   -- what is around a region comes before it, so nothing is around a region without a parent
   none-around : (k : ℕ) → k < regionCount F → IsParent F k 0 → (i : ℕ) → i < regionCount F → inside (region F k) (region F i) ≡ false
   none-around k lk p i li =
-      fails (inside (region F k) (region F i))
+      refuted (inside (region F k) (region F i))
       (λ t. let at = inside-later F o k i lk li t in omega (arith, p .innermost i (at .0) (at .1) .0))
 
   inside-parent : (k j : ℕ) → k < regionCount F → IsParent F k (suc j) → inside (region F k) (region F j) ≡ true
@@ -260,7 +264,7 @@ module _ (F : Family) (o : Ordered F) (nested : NestedBelow F (regionCount F)) w
   depth-inner k j lk p =
       count-one-more (λ i. inside (region F k) (region F i)) (λ i. inside (region F j) (region F i)) (regionCount F) j
       (omega (arith, p .earlier)) (inside-parent k j lk p)
-      (fails (inside (region F j) (region F j)) (λ t. omega (arith, inside-later F o j j (omega (arith, p .earlier)) (omega (arith, p .earlier)) t .0)))
+      (refuted (inside (region F j) (region F j)) (λ t. omega (arith, inside-later F o j j (omega (arith, p .earlier)) (omega (arith, p .earlier)) t .0)))
       (around-parent k j lk p)
 
   -- the parent that the climb finds is the parent as defined
@@ -269,30 +273,30 @@ module _ (F : Family) (o : Ordered F) (nested : NestedBelow F (regionCount F)) w
   parent-is k zero lk p =
       first-none (λ q. justInside F (region F k) (region F q)) (regionCount F)
       (none-below (λ q. justInside F (region F k) (region F q)) (regionCount F)
-      (λ q lq. fails _ (λ t. clash (and-l (inside (region F k) (region F q)) _ t) (none-around k lk p q lq))))
+      (λ q lq. refuted _ (λ t. clash (and-l (inside (region F k) (region F q)) _ t) (none-around k lk p q lq))))
   parent-is k (suc j) lk p =
       first-at (λ q. justInside F (region F k) (region F q)) (regionCount F) j (omega (arith, p .earlier))
       (and-both (inside (region F k) (region F j)) _ (inside-parent k j lk p)
       (not-passes _
       (none-below (λ t. inside (region F k) (region F t) && inside (region F t) (region F j)) (regionCount F)
       (λ t lt.
-        fails _
-        (λ b.
-          let out = inside-later F o k t lk lt (and-l (inside (region F k) (region F t)) (inside (region F t) (region F j)) b) in
-          let inn = inside-later F o t j lt (omega (arith, p .earlier)) (and-r (inside (region F k) (region F t)) (inside (region F t) (region F j)) b) in
-          omega (arith, p .innermost t (out .0) (out .1) .0, inn .0))))))
+      refuted _
+      (λ b.
+      let out = inside-later F o k t lk lt (and-l (inside (region F k) (region F t)) (inside (region F t) (region F j)) b) in
+      let inn = inside-later F o t j lt (omega (arith, p .earlier)) (and-r (inside (region F k) (region F t)) (inside (region F t) (region F j)) b) in
+      omega (arith, p .innermost t (out .0) (out .1) .0, inn .0))))))
       (λ i l.
-        fails _
-        (λ b.
-          let li : i < regionCount F = omega (arith, p .earlier) in
-          let lj : j < regionCount F = omega (arith, p .earlier) in
-          let out = inside-later F o k i lk li (and-l (inside (region F k) (region F i)) _ b) in
-          let inn = p .innermost i (out .0) (out .1) in
-          clash
-          (and-both (inside (region F k) (region F j)) (inside (region F j) (region F i)) (inside-parent k j lk p)
-          (later-inside F o j i l lj (subst (λ (n : ℕ). region F n .last ≤ region F i .last) (omega arith) (inn .1))))
-          (none-at (λ t. inside (region F k) (region F t) && inside (region F t) (region F i)) (regionCount F) j
-          (not-true _ (and-r (inside (region F k) (region F i)) _ b)) lj)))
+      refuted _
+      (λ b.
+      let li : i < regionCount F = omega (arith, p .earlier) in
+      let lj : j < regionCount F = omega (arith, p .earlier) in
+      let out = inside-later F o k i lk li (and-l (inside (region F k) (region F i)) _ b) in
+      let inn = p .innermost i (out .0) (out .1) in
+      clash
+      (and-both (inside (region F k) (region F j)) (inside (region F j) (region F i)) (inside-parent k j lk p)
+      (later-inside F o j i l lj (subst (λ (n : ℕ). region F n .last ≤ region F i .last) (omega arith) (inn .1))))
+      (none-at (λ t. inside (region F k) (region F t) && inside (region F t) (region F i)) (regionCount F) j
+      (not-true _ (and-r (inside (region F k) (region F i)) _ b)) lj)))
 
 -- The depths that are counted along the parents are right for the first k regions, and none is over 63.
 pub record Counted (F : Family) (D : List ℕ) (k : ℕ) : Type 0 where
@@ -309,14 +313,14 @@ module _ (F : Family) (o : Ordered F) (nested : NestedBelow F (regionCount F)) (
 
   pub counted-more : (d : ℕ) → k < length D → d ≡ regionsAround F k → d ≤ 63 → Counted F (set D k d) (k + 1)
   counted-more d room e most =
-      record
-      { depth =
-          λ i l.
+      record {
+        depth =
+            λ i l.
             ⊎-elim
             (λ q. rw q (getD-set-same D k d 0 room ∙ e))
             (λ b. getD-set-other D k i d 0 (λ q. omega arith) ∙ counted .depth i b)
-            (below-next l)
-      ; shallow = λ i l. ⊎-elim (λ q. rw q (omega arith)) (λ b. counted .shallow i b) (below-next l)
+            (below-next l);
+        shallow = λ i l. ⊎-elim (λ q. rw q (omega arith)) (λ b. counted .shallow i b) (below-next l);
       }
 
 pub too-deep : (F : Family) (k : ℕ) → k < regionCount F → 63 < regionsAround F k → cause10 F ≡ true
@@ -340,6 +344,6 @@ parents-written F o nested P known room =
     ext-getD 0 (take (regionCount F) P) (tabulate (regionCount F) (parent F))
     (length-take-le (regionCount F) P room ∙ sym (length-tabulate (regionCount F) (parent F)))
     (λ k l.
-      let lk : k < regionCount F = omega (arith, length-take-le (regionCount F) P room) in
-      getD-take (regionCount F) P k 0 lk
-      ∙ sym (getD-tabulate (regionCount F) (parent F) 0 k lk ∙ parent-is F o nested k (getD P k 0) lk (known k lk)))
+    let lk : k < regionCount F = omega (arith, length-take-le (regionCount F) P room) in
+    getD-take (regionCount F) P k 0 lk
+    ∙ sym (getD-tabulate (regionCount F) (parent F) 0 k lk ∙ parent-is F o nested k (getD P k 0) lk (known k lk)))

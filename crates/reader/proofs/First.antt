@@ -1,12 +1,16 @@
--- The first cause that holds, in a list of causes and in two lists joined.
+-- The first cause that holds, in a list of causes and in two lists joined, and what a call with these causes answers.
 use Prim.Native.Nat.{ℕ, _≤_}
 use native.Mathlib.Omega.{arith}
 use mathlib.Core.Bool.{true, false, cond}
-use mathlib.Core.List.{List, [], _∷_, _++_}
-use mathlib.Core.Path.{_≡_, refl, sym, _∙_}
-use mathlib.Core.Logic.{⊎-elim}
+use mathlib.Core.List.{List, [], _∷_, _++_, nil≢cons}
+use mathlib.Core.Path.{_≡_, refl, sym, ap, _∙_}
+use mathlib.Core.Logic.{_⊎_, inl, inr, ⊎-elim}
+use lib.ListN.{length, drop}
+use lib.Dec.{eqb}
+use borrow.Author.Tests.{eqb-true, eqb-false, ne-eqb}
 use Rattle.reader.specs.Causes.{Cause, firstCause}
-use Rattle.reader.proofs.Bools.{decided}
+use Rattle.reader.specs.Calls.{Report, answer, written}
+use Rattle.reader.proofs.Bools.{test}
 
 -- no cause has the number 0, which stands for none
 abbrev pub Numbered : List Cause → Type 0
@@ -28,7 +32,7 @@ module _ (c : Cause) (cs : List Cause) where
       ⊎-elim
       (λ t. absurd (omega (arith, first-holds t)))
       (λ f. (f, sym (first-fails f) ∙ h))
-      (decided (c .holds))
+      (test (c .holds))
 
 pub join-clear : (cs ds : List Cause) → Numbered cs → firstCause cs ≡ 0 → firstCause (cs ++ ds) ≡ firstCause ds
 join-clear [] ds n h = refl
@@ -43,7 +47,7 @@ join-holds (c ∷ cs) ds h =
     ⊎-elim
     (λ t. first-holds c (cs ++ ds) t ∙ sym (first-holds c cs t))
     (λ f. first-fails c (cs ++ ds) f ∙ join-holds cs ds (λ e. h (first-fails c cs f ∙ e)) ∙ sym (first-fails c cs f))
-    (decided (c .holds))
+    (test (c .holds))
 
 pub clear-left : (cs ds : List Cause) → Numbered cs → firstCause (cs ++ ds) ≡ 0 → firstCause cs ≡ 0
 unfolding firstCause
@@ -54,3 +58,40 @@ clear-left (c ∷ cs) ds n h =
 
 pub clear-right : (cs ds : List Cause) → Numbered cs → firstCause (cs ++ ds) ≡ 0 → firstCause ds ≡ 0
 clear-right cs ds n h = sym (join-clear cs ds n (clear-left cs ds n h)) ∙ h
+
+-- What a call with these causes answers and writes.
+
+module _ (cs : List Cause) where
+  pub answers : firstCause cs ≡ 0 → (values : List ℕ) → answer cs values ≡ record { number = 0; values = values }
+  unfolding answer
+  answers h values = rw h
+
+  pub declines : (firstCause cs ≡ 0 → ⊥) → (values : List ℕ) → answer cs values ≡ record { number = firstCause cs; values = [] }
+  unfolding answer
+  declines h values = rw (ne-eqb (firstCause cs) 0 h)
+
+  pub writes : firstCause cs ≡ 0 → (new old : List ℕ) → written cs new old ≡ new ++ drop (length new) old
+  unfolding written
+  writes h new old = rw h
+
+  pub leaves-unchanged : (firstCause cs ≡ 0 → ⊥) → (new old : List ℕ) → written cs new old ≡ old
+  unfolding written
+  leaves-unchanged h new old = rw (ne-eqb (firstCause cs) 0 h)
+
+  pub none-or-some : (firstCause cs ≡ 0) ⊎ (firstCause cs ≡ 0 → ⊥)
+  none-or-some = ⊎-elim (λ t. inl (eqb-true (firstCause cs) 0 t)) (λ f. inr (eqb-false (firstCause cs) 0 f)) (test (eqb (firstCause cs) 0))
+
+  -- what a caller learns from an answer with no value, and from one with values
+  pub learns-number : (n : ℕ) (v : ℕ) (vs : List ℕ) → record { number = n; values = [] } ≡ answer cs (v ∷ vs) → (n ≡ firstCause cs) × (n ≡ 0 → ⊥)
+  learns-number n v vs h =
+      ⊎-elim
+      (λ z. absurd (nil≢cons (ap (λ (r : Report). r .values) (h ∙ answers z (v ∷ vs)))))
+      (λ s. let e : n ≡ firstCause cs = ap (λ (r : Report). r .number) (h ∙ declines s (v ∷ vs)) in (e, λ z. s (sym e ∙ z)))
+      none-or-some
+
+  pub learns-values : (n u : ℕ) (us vs : List ℕ) → record { number = n; values = u ∷ us } ≡ answer cs vs → (firstCause cs ≡ 0) × (u ∷ us ≡ vs)
+  learns-values n u us vs h =
+      ⊎-elim
+      (λ z. (z, ap (λ (r : Report). r .values) (h ∙ answers z vs)))
+      (λ s. absurd (nil≢cons (sym (ap (λ (r : Report). r .values) (h ∙ declines s vs)))))
+      none-or-some

@@ -15,7 +15,7 @@ use Rattle.reader.specs.Bytes.{numberAt}
 use Rattle.reader.specs.Family.{Region, Family, leaves, regionCount, region, regionAt, lengthAt, familyOf, mark, regionsOffset, totalLength}
 use Rattle.reader.specs.Nesting.{before, shareLeaf, within, crossing, inside}
 use Rattle.reader.specs.Causes.{cause1, cause2, cause3, cause4, cause5, cause6, cause7, cause8, cause9, cause10, misplaced, firstCause, headerCauses, familyCauses, fileCauses}
-use Rattle.reader.proofs.Bools.{decided, clash, passes, fails, and-l, and-r, and-both, and-fails, or-left, or-right, or-either, or-neither, or-fails-l, or-fails-r, not-fails, not-passes}
+use Rattle.reader.proofs.Bools.{test, clash, passes, refuted, and-l, and-r, and-both, and-fails, or-l, or-r, or-either, or-neither, or-fails-l, or-fails-r, not-fails, not-passes}
 use Rattle.reader.proofs.Below.{none-at, none-below, some-same}
 use Rattle.reader.proofs.Lists.{same-equal, same-refl}
 use Rattle.reader.proofs.Parsed.{peptides-read, leaves-read, regions-read, length-read, region-read}
@@ -40,9 +40,10 @@ zero-unless a h = ne-eqb a 0 (λ e. omega arith)
 module _ (s : List ℕ) where
   pub marked : cause1 s ≡ false → (16 ≤ length s) × (take 4 s ≡ mark)
   unfolding cause1
-  marked h =
-      (ltb-false (length s) 16 (or-fails-l (ltb (length s) 16) (not (sameList (take 4 s) mark)) h),
-      same-equal (take 4 s) mark (not-false _ (or-fails-r (ltb (length s) 16) (not (sameList (take 4 s) mark)) h)))
+  marked h = (
+    ltb-false (length s) 16 (or-fails-l (ltb (length s) 16) (not (sameList (take 4 s) mark)) h),
+    same-equal (take 4 s) mark (not-false _ (or-fails-r (ltb (length s) 16) (not (sameList (take 4 s) mark)) h)),
+  )
 
   pub from-marked : 16 ≤ length s → take 4 s ≡ mark → cause1 s ≡ false
   unfolding cause1
@@ -128,9 +129,10 @@ module _ (F : Family) where
   unfolding cause6
   lengths-clear h =
       let p : ℕ → Bool = λ j. eqb (getD (F .lengths) j 0) 0 in
-      let d : Bool = not (eqb (sum (F .lengths)) (F .peptides)) in
-      (λ j l. some-if (getD (F .lengths) j 0) (none-at p (leaves F) j (or-fails-l (someBelow (leaves F) p) d h) l),
-      eq-if-same (sum (F .lengths)) (F .peptides) (or-fails-r (someBelow (leaves F) p) d h))
+      let d : Bool = not (eqb (sum (F .lengths)) (F .peptides)) in (
+        λ j l. some-if (getD (F .lengths) j 0) (none-at p (leaves F) j (or-fails-l (someBelow (leaves F) p) d h) l),
+        eq-if-same (sum (F .lengths)) (F .peptides) (or-fails-r (someBelow (leaves F) p) d h),
+      )
 
   pub from-lengths-clear : ((j : ℕ) → j < leaves F → 1 ≤ getD (F .lengths) j 0) → sum (F .lengths) ≡ F .peptides → cause6 F ≡ false
   unfolding cause6
@@ -152,10 +154,10 @@ on-leaves n r h =
     let b : Bool = ltb (r .last) (r .first) in
     let c : Bool = ltb n (r .last) in
     let ab : (a || b) ≡ false = or-fails-l (a || b) c h in
-    record
-    { first-some = some-if (r .first) (or-fails-l a b ab)
-    ; first-last = ltb-false (r .last) (r .first) (or-fails-r a b ab)
-    ; last-leaf = ltb-false n (r .last) (or-fails-r (a || b) c h)
+    record {
+      first-some = some-if (r .first) (or-fails-l a b ab);
+      first-last = ltb-false (r .last) (r .first) (or-fails-r a b ab);
+      last-leaf = ltb-false n (r .last) (or-fails-r (a || b) c h);
     }
 
 pub from-on-leaves : (n : ℕ) (r : Region) → OnLeaves n r → misplaced n r ≡ false
@@ -190,16 +192,16 @@ from-before r q h =
     let e : Bool = eqb (r .first) (q .first) in
     let l : Bool = ltb (q .last) (r .last) in
     ⊎-elim
-    (λ a. or-left (ltb (r .first) (q .first)) (e && l) (lt-ltb (r .first) (q .first) a))
-    (λ b. or-right (ltb (r .first) (q .first)) (e && l) (and-both e l (eq-eqb (r .first) (q .first) (b .0)) (lt-ltb (q .last) (r .last) (b .1))))
+    (λ a. or-l (ltb (r .first) (q .first)) (e && l) (lt-ltb (r .first) (q .first) a))
+    (λ b. or-r (ltb (r .first) (q .first)) (e && l) (and-both e l (eq-eqb (r .first) (q .first) (b .0)) (lt-ltb (q .last) (r .last) (b .1))))
     h
 
 pub not-before-last : (r q : Region) → r .first ≡ q .first → not (before r q) ≡ leb (r .last) (q .last)
 not-before-last r q e =
     ⊎-elim
-    (λ t. rw t (not-passes (before r q) (fails (before r q) (λ b. ⊎-elim (λ a. omega arith) (λ a. omega (arith, leb-true (r .last) (q .last) t)) (is-before r q b)))))
+    (λ t. rw t (not-passes (before r q) (refuted (before r q) (λ b. ⊎-elim (λ a. omega arith) (λ a. omega (arith, leb-true (r .last) (q .last) t)) (is-before r q b)))))
     (λ f. rw f (not-fails (before r q) (from-before r q (inr (e, leb-false (r .last) (q .last) f)))))
-    (decided (leb (r .last) (q .last)))
+    (test (leb (r .last) (q .last)))
 
 module _ (F : Family) where
   pub regions-placed : cause7 F ≡ false → (k : ℕ) → k < regionCount F → OnLeaves (leaves F) (region F k)

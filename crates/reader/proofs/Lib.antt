@@ -8,3 +8,4 @@ pub mod Walk
 pub mod First
 pub mod Climbing
 pub mod Accepting
+pub mod Files

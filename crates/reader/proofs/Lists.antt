@@ -11,7 +11,7 @@ use lib.Seq.{ext-getD, drop-cons, take-suc, set-at, append-snoc, length-take-le}
 use lib.Dec.{eqb}
 use borrow.Author.Tests.{eqb-true, eq-eqb}
 use Rattle.reader.specs.Lists.{tabulate, sum, sameList}
-use Rattle.reader.proofs.Bools.{and-l, and-r, and-both, fails, clash}
+use Rattle.reader.proofs.Bools.{and-l, and-r, and-both, refuted, clash}
 
 module _ {A : Type 0} where
   pub length-tabulate : (n : ℕ) (f : ℕ → A) → length (tabulate n f) ≡ n
@@ -47,7 +47,7 @@ same-equal (x ∷ l) (y ∷ k) h =
     rw (eqb-true x y (and-l (eqb x y) (sameList l k) h), same-equal l k (and-r (eqb x y) (sameList l k) h))
 
 pub not-same : (l k : List ℕ) → (l ≡ k → ⊥) → sameList l k ≡ false
-not-same l k h = fails (sameList l k) (λ t. h (same-equal l k t))
+not-same l k h = refuted (sameList l k) (λ t. h (same-equal l k t))
 
 pub same-all : (l k : List ℕ) → length l ≡ length k → ((i : ℕ) → i < length l → getD l i 0 ≡ getD k i 0) → sameList l k ≡ true
 same-all l k e h = rw (ext-getD 0 l k e h) (same-refl k)

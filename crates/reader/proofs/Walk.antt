@@ -13,7 +13,7 @@ use lib.Dec.{leb, ltb}
 use borrow.Author.Tests.{ltb-true, ltb-false, leb-true, leb-false, le-leb, lt-leb}
 use Rattle.reader.specs.Lists.{sum}
 use Rattle.reader.specs.Family.{Family, leaves, leafAfter, leafOf, peptidesUpTo}
-use Rattle.reader.proofs.Bools.{decided}
+use Rattle.reader.proofs.Bools.{test}
 use Rattle.reader.proofs.Lists.{sum-take-suc}
 
 module _ (F : Family) where
@@ -67,25 +67,25 @@ module _ (F : Family) where
   walk-finds (suc n) p j q few here some most before =
       ⊎-elim
       (λ t.
-        let l : j < leaves F = ltb-true j (leaves F) t in
-        ⊎-elim
-        (λ u.
-          rw (walk-stops F j q l (leb-true q (getD (F .lengths) j 0) u))
-          record
-          { some = omega arith
-          ; leaf = omega arith
-          ; reaches = omega (arith, up-to-next j, leb-true q (getD (F .lengths) j 0) u)
-          ; first = λ i h. before i (omega arith)
-          })
-        (λ u.
-          let over = leb-false q (getD (F .lengths) j 0) u in
-          let next = up-to-next j in
-          rw (walk-goes-on F j q l over)
-          (walk-finds n p (j + 1) (q - getD (F .lengths) j 0) (omega arith) (omega arith) (omega arith) most
-          (λ i h. ⊎-elim (λ e. rw e (omega arith)) (λ d. before i (omega arith)) (eq-or-lt-of-le h))))
-        (decided (leb q (getD (F .lengths) j 0))))
+      let l : j < leaves F = ltb-true j (leaves F) t in
+      ⊎-elim
+      (λ u.
+      rw (walk-stops F j q l (leb-true q (getD (F .lengths) j 0) u))
+      record {
+        some = omega arith;
+        leaf = omega arith;
+        reaches = omega (arith, up-to-next j, leb-true q (getD (F .lengths) j 0) u);
+        first = λ i h. before i (omega arith);
+      })
+      (λ u.
+      let over = leb-false q (getD (F .lengths) j 0) u in
+      let next = up-to-next j in
+      rw (walk-goes-on F j q l over)
+      (walk-finds n p (j + 1) (q - getD (F .lengths) j 0) (omega arith) (omega arith) (omega arith) most
+      (λ i h. ⊎-elim (λ e. rw e (omega arith)) (λ d. before i (omega arith)) (eq-or-lt-of-le h))))
+      (test (leb q (getD (F .lengths) j 0))))
       (λ f. absurd (omega (arith, up-to-end j (ltb-false j (leaves F) f))))
-      (decided (ltb j (leaves F)))
+      (test (ltb j (leaves F)))
 
   -- the leaf of a peptide is the first one up to which the lengths add to at least the peptide's number
   pub leaf-found : (p : ℕ) → 1 ≤ p → p ≤ sum (F .lengths) → FirstReaching F p (leafOf F p)

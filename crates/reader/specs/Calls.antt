@@ -8,7 +8,7 @@ use lib.Dec.{leb, eqb}
 use Rattle.reader.specs.Family as family
 use Rattle.reader.specs.Family.{familyOf, leaves, regionCount, regionsOffset}
 use Rattle.reader.specs.Nesting.{parents}
-use Rattle.reader.specs.Causes.{firstCause, fileCauses, Accepted}
+use Rattle.reader.specs.Causes.{Cause, firstCause, fileCauses, Accepted}
 use Rattle.reader.specs.WellFormed.{ParentsBelow}
 use Rattle.reader.specs.declared.Checked.{Checked}
 use Rattle.reader.specs.declared.Checked.the-variants.{Family, Refused}
@@ -19,6 +19,14 @@ pub record Report : Type 0 where
   pub number : ℕ
   pub values : List ℕ
 
+-- A call with these causes answers the number of the first that holds, else the values.
+unfoldable pub answer : List Cause → List ℕ → Report
+answer cs values = cond (eqb (firstCause cs) 0) (record { number = 0; values = values }) (record { number = firstCause cs; values = [] })
+
+-- It writes the new elements at the start of a lent list if no cause holds; else the list is as it was.
+unfoldable pub written : List Cause → List ℕ → List ℕ → List ℕ
+written cs new old = cond (eqb (firstCause cs) 0) (new ++ drop (length new) old) old
+
 -- the number and the values of each case of `Checked`
 unfoldable pub report : Checked → Report
 report (Family m n k) = record { number = 0; values = m ∷ n ∷ k ∷ [] }
@@ -26,10 +34,7 @@ report (Refused n) = record { number = n; values = [] }
 
 -- m, N and K of an accepted file, else the number of the first cause that holds
 unfoldable pub checked : List ℕ → Report
-checked s =
-    cond (eqb (firstCause (fileCauses s)) 0)
-    (record { number = 0; values = familyOf s .peptides ∷ leaves (familyOf s) ∷ regionCount (familyOf s) ∷ [] })
-    (record { number = firstCause (fileCauses s); values = [] })
+checked s = answer (fileCauses s) (familyOf s .peptides ∷ leaves (familyOf s) ∷ regionCount (familyOf s) ∷ [])
 
 -- the part of an accepted file that holds the regions; nothing of any other file
 unfoldable pub regionPart : List ℕ → List ℕ

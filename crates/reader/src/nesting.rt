@@ -69,7 +69,11 @@ fn one_deeper(depths: &[u8], number: u16) -> u8
     requires { ⌜ ((i : ℕ) → i < number → getD (now depths) i 0 ≤ 63) ⌝ }
     ensures { λ r. ⌜ r ≡ oneDeeper (now (depths .entry)) number ⌝ }
 {
-    if number == 0 { 0 } else { depths[(number - 1) as usize] + 1 }
+    if number == 0 {
+        0
+    } else {
+        depths[(number - 1) as usize] + 1
+    }
 }
 
 // A region with more than 63 regions around it.

@@ -42,11 +42,12 @@ loop-again : tie.Need-loop-again Inv-loop μ-loop
 loop-again c =
     let inv = c .before .before .loop .inv in
     let i = c .before .before .loop .i in
-    let from = now (c .before .before .before .before .args .from) in
-    (omega arith,
-    simp length-set (inv .1),
-    ap (λ (l : List ℕ). set l i (getD from i 0)) (inv .2)
-    ∙ copy-more from (now (c .before .before .before .before .args .to)) i (omega (arith, c .before .before .before .before .pre)) (omega (arith, c .before .before .before .if1 .taken)))
+    let from = now (c .before .before .before .before .args .from) in (
+      omega arith,
+      simp length-set (inv .1),
+      ap (λ (l : List ℕ). set l i (getD from i 0)) (inv .2)
+          ∙ copy-more from (now (c .before .before .before .before .args .to)) i (omega (arith, c .before .before .before .before .pre)) (omega (arith, c .before .before .before .if1 .taken)),
+    )
 
 same-length : tie.Need-same-length Inv-loop μ-loop
 same-length c = search needs

@@ -57,20 +57,20 @@ same-length c = search needs
 returns-4 : tie.Need-returns-4
 unfolding firstCause familyCauses
 returns-4 c =
-    record
-    { tested = rw (no6 (c .before .before .before .before .before .before .before .before .before), no7 (c .before .before .before .before .before .before .before), no8 (c .before .before .before .before .before), ← (c .before .before .before .fill-parents .ensures .tested), c .if4 .taken)
-    ; parents = λ e. absurd (omega arith)
+    record {
+      tested = rw (no6 (c .before .before .before .before .before .before .before .before .before), no7 (c .before .before .before .before .before .before .before), no8 (c .before .before .before .before .before), ← (c .before .before .before .fill-parents .ensures .tested), c .if4 .taken);
+      parents = λ e. absurd (omega arith);
     }
 
 too-deep-requires : tie.Need-too-deep-requires
 too-deep-requires c κs =
     let few = few-regions _ (header-clear _ (c .before .before .before .before .before .before .before .before .before .before .before .before .before .before .pre .1)) in
-    record
-    { ordered = in-order (c .before .before .before .before .before .before)
-    ; nested = nested-if-clear _ (in-order (c .before .before .before .before .before .before)) (no9 (c .before))
-    ; known = c .before .before .before .before .fill-parents .ensures .parents (c .before .if4 .left)
-    ; few = few
-    ; room = omega (arith, few, c .before .before .before .before .fill-parents .kept, c .before .before .before .before .before .before .before .before .before .before .before .before .before .before .pre .0)
+    record {
+      ordered = in-order (c .before .before .before .before .before .before);
+      nested = nested-if-clear _ (in-order (c .before .before .before .before .before .before)) (no9 (c .before));
+      known = c .before .before .before .before .fill-parents .ensures .parents (c .before .if4 .left);
+      few = few;
+      room = omega (arith, few, c .before .before .before .before .fill-parents .kept, c .before .before .before .before .before .before .before .before .before .before .before .before .before .before .pre .0);
     }
 
 same-length-2 : tie.Need-same-length-2
@@ -79,9 +79,9 @@ same-length-2 c = search needs
 returns-5 : tie.Need-returns-5
 unfolding firstCause familyCauses
 returns-5 c =
-    record
-    { tested = rw (no6 (c .before .before .before .before .before .before .before .before .before .before .before .before), no7 (c .before .before .before .before .before .before .before .before .before .before), no8 (c .before .before .before .before .before .before .before .before), no9 (c .before .before .before), ← (c .before .too-deep .ensures), c .if5 .taken)
-    ; parents = λ e. absurd (omega arith)
+    record {
+      tested = rw (no6 (c .before .before .before .before .before .before .before .before .before .before .before .before), no7 (c .before .before .before .before .before .before .before .before .before .before), no8 (c .before .before .before .before .before .before .before .before), no9 (c .before .before .before), ← (c .before .too-deep .ensures), c .if5 .taken);
+      parents = λ e. absurd (omega arith);
     }
 
 same-length-3 : tie.Need-same-length-3
@@ -90,9 +90,9 @@ same-length-3 c = search needs
 returns-6 : tie.Need-returns-6
 unfolding firstCause familyCauses
 returns-6 c =
-    record
-    { tested = rw (no6 (c .before .before .before .before .before .before .before .before .before .before .before .before), no7 (c .before .before .before .before .before .before .before .before .before .before), no8 (c .before .before .before .before .before .before .before .before), no9 (c .before .before .before), ← (c .before .too-deep .ensures), c .if5 .left)
-    ; parents = λ e. c .before .before .before .before .before .before .fill-parents .ensures .parents (c .before .before .before .if4 .left)
+    record {
+      tested = rw (no6 (c .before .before .before .before .before .before .before .before .before .before .before .before), no7 (c .before .before .before .before .before .before .before .before .before .before), no8 (c .before .before .before .before .before .before .before .before), no9 (c .before .before .before), ← (c .before .too-deep .ensures), c .if5 .left);
+      parents = λ e. c .before .before .before .before .before .before .fill-parents .ensures .parents (c .before .before .before .if4 .left);
     }
 
 pub family-cause-spec : {M : Type 1} → statement M

@@ -16,9 +16,9 @@ returns : tie.Need-returns
 returns c =
     let s = now (c .before .before .before .before .args .file) in
     let first = file-header s (λ e. c .if1 .taken (c .before .header-cause .ensures ∙ e)) in
-    record
-    { reported = reports-refused s _ (c .before .header-cause .ensures ∙ sym first) (c .if1 .taken)
-    ; parents = λ a. absurd (c .if1 .taken (c .before .header-cause .ensures ∙ sym first ∙ a))
+    record {
+      reported = reports-refused s _ (c .before .header-cause .ensures ∙ sym first) (c .if1 .taken);
+      parents = λ a. absurd (c .if1 .taken (c .before .header-cause .ensures ∙ sym first ∙ a));
     }
 
 family-cause-requires : tie.Need-family-cause-requires
@@ -51,11 +51,11 @@ returns-3 c =
     let s = now (c .before .before .before .before .before .before .before .before .before .before .before .before .args .file) in
     let first = file-family s (sym (c .before .before .before .before .before .before .before .before .before .header-cause .ensures) ∙ c .before .before .before .before .before .before .before .before .if1 .left) in
     let accepted = first ∙ sym (c .before .before .before .before .before .before .family-cause .ensures .tested) ∙ c .before .before .before .if2 .left in
-    record
-    { reported =
-        reports-accepted s _ _ _ accepted (c .before .before .number-at .ensures ∙ sym (peptides-read s)) (c .before .number-at2 .ensures ∙ sym (leaves-read s))
-        (c .number-at3 .ensures ∙ sym (regions-read s))
-    ; parents = λ a. c .before .before .before .before .before .before .family-cause .ensures .parents (c .before .before .before .if2 .left)
+    record {
+      reported =
+          reports-accepted s _ _ _ accepted (c .before .before .number-at .ensures ∙ sym (peptides-read s)) (c .before .number-at2 .ensures ∙ sym (leaves-read s))
+          (c .number-at3 .ensures ∙ sym (regions-read s));
+      parents = λ a. c .before .before .before .before .before .before .family-cause .ensures .parents (c .before .before .before .if2 .left);
     }
 
 pub judge-spec : {M : Type 1} → statement M

@@ -46,12 +46,13 @@ returns c =
     let out = now (c .before .before .before .before .before .before .before .before .before .before .before .before .before .args .out) in
     let P = c .before .before .before .before .before .before .before .before .before .judge .last .1 .0 in
     let e = ap report (sym (c .before .before .before .before .before .before .peptides .given .1)) ∙ c .before .before .before .before .before .before .before .before .before .judge .ensures .reported in
-    let a = learns-accepted s _ _ _ e in
-    (e,
-    c .before .before .copy-front .ensures
-    ∙ ap (λ (k : ℕ). cond (leb k (length out)) (take k P ++ drop k out) out) (a .regions)
-    ∙ sym (parents-accepted s (a .accepted) P out (c .before .before .before .before .before .before .before .before .before .judge .ensures .parents (a .accepted))
-    (omega (arith, few-regions s (accepted-header s (a .accepted)), c .before .before .before .before .before .before .before .before .before .judge .kept))))
+    let a = learns-accepted s _ _ _ e in (
+      e,
+      c .before .before .copy-front .ensures
+          ∙ ap (λ (k : ℕ). cond (leb k (length out)) (take k P ++ drop k out) out) (a .regions)
+          ∙ sym (parents-accepted s (a .accepted) P out (c .before .before .before .before .before .before .before .before .before .judge .ensures .parents (a .accepted))
+          (omega (arith, few-regions s (accepted-header s (a .accepted)), c .before .before .before .before .before .before .before .before .before .judge .kept))),
+    )
 
 returns-2 : tie.Need-returns-2
 returns-2 c =

@@ -9,7 +9,7 @@ use denote.Ref.{now}
 use Rattle.reader.specs.Lists.{someBelow}
 use Rattle.reader.specs.Bytes.{numberAt}
 use Rattle.reader.specs.Family.{familyOf, lengthAt, peptidesUpTo}
-use Rattle.reader.proofs.Bools.{or-left}
+use Rattle.reader.proofs.Bools.{or-l}
 use Rattle.reader.proofs.Below.{none-below-zero, none-more, some-at}
 use Rattle.reader.proofs.Parsed.{leaves-read, length-number}
 use Rattle.reader.proofs.Walk.{nothing-before, up-to-next, up-to-end}
@@ -52,7 +52,7 @@ returns : tie.Need-returns Inv-loop μ-loop
 unfolding lengthAt
 returns c =
     let s = now (c .before .before .before .before .before .before .args .file) in
-    sym (lengths-at-bytes s ∙ or-left _ _ (some-at (λ i. eqb (lengthAt s i) 0) (numberAt s 6) (c .before .before .before .loop .j) (omega arith) (eq-eqb _ 0 (sym (c .before .number-at2 .ensures) ∙ c .if1 .taken))))
+    sym (lengths-at-bytes s ∙ or-l _ _ (some-at (λ i. eqb (lengthAt s i) 0) (numberAt s 6) (c .before .before .before .loop .j) (omega arith) (eq-eqb _ 0 (sym (c .before .number-at2 .ensures) ∙ c .if1 .taken))))
 
 cast-sum : tie.Need-cast-sum Inv-loop μ-loop
 cast-sum c = search needs
@@ -71,9 +71,14 @@ unfolding lengthAt
 loop-again c =
     let s = now (c .before .before .before .before .before .before .args .file) in
     let j = c .before .before .before .loop .j in
-    let inv = c .before .before .before .loop .inv in
-    (omega arith, inv .1, inv .2, omega (arith, c .before .number-at2 .ok), omega (arith, up-to-next (familyOf s) j, length-number s j (omega arith)),
-    none-more _ _ (inv .5) (ne-eqb _ 0 (λ e. c .if1 .left (c .before .number-at2 .ensures ∙ e))))
+    let inv = c .before .before .before .loop .inv in (
+      omega arith,
+      inv .1,
+      inv .2,
+      omega (arith, c .before .number-at2 .ok),
+      omega (arith, up-to-next (familyOf s) j, length-number s j (omega arith)),
+      none-more _ _ (inv .5) (ne-eqb _ 0 (λ e. c .if1 .left (c .before .number-at2 .ensures ∙ e))),
+    )
 
 number-at-requires-3 : tie.Need-number-at-requires-3 Inv-loop μ-loop
 number-at-requires-3 c κs = search needs

@@ -3,7 +3,7 @@ use native.Mathlib.Omega.{arith}
 use mathlib.Core.Path.{sym}
 use mathlib.Core.Logic.{⊎-elim, inl}
 use Rattle.reader.specs.Calls.{held}
-use Rattle.reader.proofs.Bools.{fails, not-fails, not-passes}
+use Rattle.reader.proofs.Bools.{refuted, not-fails, not-passes}
 use Rattle.reader.proofs.Judged.{is-before, from-before, not-before-last}
 use Rattle.reader.proofs.causes.not_before.Statement.{statement}
 use Rattle.reader.proofs.causes.not_before.Tie as tie
@@ -14,7 +14,7 @@ returns c = sym (not-fails _ (from-before (held (c .before .args .r)) (held (c .
 
 returns-2 : tie.Need-returns-2
 unfolding held
-returns-2 c = sym (not-passes _ (fails _ (λ t. ⊎-elim (λ a. omega arith) (λ b. omega arith) (is-before (held (c .before .before .args .r)) (held (c .before .before .args .q)) t))))
+returns-2 c = sym (not-passes _ (refuted _ (λ t. ⊎-elim (λ a. omega arith) (λ b. omega arith) (is-before (held (c .before .before .args .r)) (held (c .before .before .args .q)) t))))
 
 returns-3 : tie.Need-returns-3
 unfolding held

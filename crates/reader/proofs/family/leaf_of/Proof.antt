@@ -60,12 +60,13 @@ loop-again : tie.Need-loop-again Inv-loop μ-loop
 loop-again c =
     let s = now (c .before .before .before .before .before .before .args .file) in
     let j = c .before .before .before .loop .j in
-    let l = length-number s j (omega arith) in
-    (omega arith,
-    c .before .before .before .loop .inv .1,
-    c .before .before .before .loop .inv .2
-    ∙ walk-goes-on (familyOf s) j (c .before .before .before .loop .left) (omega (arith, leaves-read s)) (omega arith)
-    ∙ ap (λ (x : ℕ). leafAfter (j + 1) (drop (j + 1) (familyOf s .lengths)) (c .before .before .before .loop .left - x)) (omega arith))
+    let l = length-number s j (omega arith) in (
+      omega arith,
+      c .before .before .before .loop .inv .1,
+      c .before .before .before .loop .inv .2
+          ∙ walk-goes-on (familyOf s) j (c .before .before .before .loop .left) (omega (arith, leaves-read s)) (omega arith)
+          ∙ ap (λ (x : ℕ). leafAfter (j + 1) (drop (j + 1) (familyOf s .lengths)) (c .before .before .before .loop .left - x)) (omega arith),
+    )
 
 returns-2 : tie.Need-returns-2 Inv-loop μ-loop
 returns-2 c =

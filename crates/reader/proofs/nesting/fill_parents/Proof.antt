@@ -51,9 +51,10 @@ climb-requires : tie.Need-climb-requires Inv-loop μ-loop
 climb-requires c κs =
     let s = now (c .before .before .before .before .before .before .before .args .file) in
     let pre = c .before .before .before .before .before .before .before .pre in
-    let inv = c .before .before .before .loop .inv in
-    (record { ordered = pre .0; nested = inv .3; known = inv .4; here = here (c .before .before); room = omega (arith, pre .1, inv .2) },
-    held-first _ _ (c .before .region-at .ensures ∙ sym (region-read s (c .before .before .before .loop .k) (omega (arith, c .before .before .loop-test .taken, inv .1)))))
+    let inv = c .before .before .before .loop .inv in (
+      record { ordered = pre .0; nested = inv .3; known = inv .4; here = here (c .before .before); room = omega (arith, pre .1, inv .2) },
+      held-first _ _ (c .before .region-at .ensures ∙ sym (region-read s (c .before .before .before .loop .k) (omega (arith, c .before .before .loop-test .taken, inv .1)))),
+    )
 
 ends-before-requires : tie.Need-ends-before-requires Inv-loop μ-loop
 ends-before-requires c κs = omega (arith, c .climb .ensures .earlier, here (c .before .before .before))
@@ -63,9 +64,9 @@ same-length c = search needs
 
 returns : tie.Need-returns Inv-loop μ-loop
 returns c =
-    record
-    { tested = sym (climbed-crosses _ (c .before .before .before .before .before .before .before .before .before .before .pre .0) _ (here (c .before .before .before .before .before)) _ (c .before .before .climb .ensures) (sym (tested (c .before)) ∙ c .if1 .taken))
-    ; parents = λ f. absurd (clash refl f)
+    record {
+      tested = sym (climbed-crosses _ (c .before .before .before .before .before .before .before .before .before .before .pre .0) _ (here (c .before .before .before .before .before)) _ (c .before .before .climb .ensures) (sym (tested (c .before)) ∙ c .if1 .taken));
+      parents = λ f. absurd (clash refl f);
     }
 
 cast-parents : tie.Need-cast-parents Inv-loop μ-loop
@@ -87,10 +88,13 @@ loop-again : tie.Need-loop-again Inv-loop μ-loop
 loop-again c =
     let inv = c .before .before .before .before .before .before .loop .inv in
     let o = c .before .before .before .before .before .before .before .before .before .before .pre .0 in
-    let clear = sym (tested (c .before)) ∙ c .if1 .left in
-    (omega arith, inv .1, simp length-set (inv .2),
-    nested-more _ _ (inv .3) (climbed-nested _ o _ (here (c .before .before .before .before .before)) _ (c .before .before .climb .ensures) clear),
-    parents-more _ (c .before .before .before .before .before .before .loop .parents) (c .before .before .before .before .before .before .loop .k) _ (omega (arith, here (c .before .before .before .before .before), c .before .before .before .before .before .before .before .before .before .before .pre .1, inv .2)) (inv .4) (climbed-parent _ o _ (here (c .before .before .before .before .before)) _ (c .before .before .climb .ensures) clear))
+    let clear = sym (tested (c .before)) ∙ c .if1 .left in (
+      omega arith,
+      inv .1,
+      simp length-set (inv .2),
+      nested-more _ _ (inv .3) (climbed-nested _ o _ (here (c .before .before .before .before .before)) _ (c .before .before .climb .ensures) clear),
+      parents-more _ (c .before .before .before .before .before .before .loop .parents) (c .before .before .before .before .before .before .loop .k) _ (omega (arith, here (c .before .before .before .before .before), c .before .before .before .before .before .before .before .before .before .before .pre .1, inv .2)) (inv .4) (climbed-parent _ o _ (here (c .before .before .before .before .before)) _ (c .before .before .climb .ensures) clear),
+    )
 
 same-length-2 : tie.Need-same-length-2 Inv-loop μ-loop
 same-length-2 c = search needs
@@ -100,9 +104,9 @@ returns-2 c =
     let s = now (c .before .before .before .before .before .args .file) in
     let inv = c .before .loop .inv in
     let end : regionCount (familyOf s) ≡ c .before .loop .k = omega (arith, regions-read s, inv .0, inv .1, c .loop-test .left) in
-    record
-    { tested = sym (clear-if-nested (familyOf s) (c .before .before .before .before .before .pre .0) (λ i j l h. inv .3 i j l (omega (arith, end))))
-    ; parents = λ f i l. inv .4 i (omega (arith, end))
+    record {
+      tested = sym (clear-if-nested (familyOf s) (c .before .before .before .before .before .pre .0) (λ i j l h. inv .3 i j l (omega (arith, end))));
+      parents = λ f i l. inv .4 i (omega (arith, end));
     }
 
 pub fill-parents-spec : {M : Type 1} → statement M

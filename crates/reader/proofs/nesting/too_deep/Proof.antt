@@ -52,9 +52,10 @@ one-deeper-requires : tie.Need-one-deeper-requires Inv-loop μ-loop
 one-deeper-requires c κs =
     let pre = c .before .before .before .before .before .before .before .pre in
     let counted = c .before .before .before .loop .inv .3 in
-    let p = pre .known (c .before .before .before .loop .k) (here (c .before .before)) in
-    (omega (arith, p .earlier, here (c .before .before), pre .few, c .before .before .before .loop .inv .2),
-    λ i l. omega (arith, counted .depth i (omega (arith, p .earlier)), counted .shallow i (omega (arith, p .earlier))))
+    let p = pre .known (c .before .before .before .loop .k) (here (c .before .before)) in (
+      omega (arith, p .earlier, here (c .before .before), pre .few, c .before .before .before .loop .inv .2),
+      λ i l. omega (arith, counted .depth i (omega (arith, p .earlier)), counted .shallow i (omega (arith, p .earlier))),
+    )
 
 returns : tie.Need-returns Inv-loop μ-loop
 returns c = sym (too-deep _ _ (here (c .before .before .before .before)) (omega (arith, depth-read (c .before), c .if1 .taken)))
@@ -71,10 +72,13 @@ loop-less c = search needs
 loop-again : tie.Need-loop-again Inv-loop μ-loop
 loop-again c =
     let pre = c .before .before .before .before .before .before .before .before .before .pre in
-    let inv = c .before .before .before .before .before .loop .inv in
-    (omega arith, inv .1, simp length-set (inv .2),
-    counted-more _ (pre .ordered) (pre .nested) (c .before .before .before .before .before .loop .depths) (c .before .before .before .before .before .loop .k) (here (c .before .before .before .before)) (inv .3) _
-    (omega (arith, here (c .before .before .before .before), pre .few, inv .2)) (depth-read (c .before)) (c .if1 .left))
+    let inv = c .before .before .before .before .before .loop .inv in (
+      omega arith,
+      inv .1,
+      simp length-set (inv .2),
+      counted-more _ (pre .ordered) (pre .nested) (c .before .before .before .before .before .loop .depths) (c .before .before .before .before .before .loop .k) (here (c .before .before .before .before)) (inv .3) _
+          (omega (arith, here (c .before .before .before .before), pre .few, inv .2)) (depth-read (c .before)) (c .if1 .left),
+    )
 
 returns-2 : tie.Need-returns-2 Inv-loop μ-loop
 returns-2 c =

@@ -1,0 +1,95 @@
+-- The ranges of a family are laminar.
+use Prim.Native.Nat.{ℕ, zero, suc, _+_, _-_, _≤_, _<_}
+use mathlib.Core.List.{List, [], _∷_}
+use mathlib.Core.Logic.{_⊎_, ⊎-elim}
+use mathlib.Core.Path.{_≡_}
+use native.Mathlib.Nat.{eq-or-lt-of-le}
+use native.Mathlib.Omega.{arith}
+use lib.ListN.{length, getD, take, length-map, List·getD-map}
+use lib.Seq.{take-length}
+use Rattle.reader.specs.Lists.{sum}
+use Rattle.reader.specs.Family.{Region, Family, leaves, regionCount, region, peptidesUpTo}
+use Rattle.bounds.specs.Ranges.{Range, rangeOf, rangesOf}
+use Rattle.bounds.proofs.Members.{In, in-at}
+use Rattle.bounds.proofs.Laminar.{Fit, isAround, isBefore, Proper, Laminar, laminar-at}
+
+-- What is asked of a family: its leaves make up the peptides, its regions lie on the leaves,
+-- and of two regions in file order the later one is after the earlier one, or inside it.
+pub record Placed (F : Family) : Type 0 where
+  pub sums : sum (F .lengths) ≡ F .peptides
+  pub starts : (k : ℕ) → k < regionCount F → 1 ≤ region F k .first
+  pub order : (k : ℕ) → k < regionCount F → region F k .first ≤ region F k .last
+  pub ends : (k : ℕ) → k < regionCount F → region F k .last ≤ leaves F
+  pub rising : (i j : ℕ) → i < j → j < regionCount F → region F i .first ≤ region F j .first
+  pub falling : (i j : ℕ) → i < j → j < regionCount F → region F i .first ≡ region F j .first → region F j .last < region F i .last
+  pub nested : (i j : ℕ) → i < j → j < regionCount F → (region F i .last < region F j .first) ⊎ (region F j .last ≤ region F i .last)
+
+sum-take : (i j : ℕ) (L : List ℕ) → i ≤ j → sum (take i L) ≤ sum (take j L)
+unfolding sum
+sum-take zero j L h = omega arith
+sum-take (suc i) zero L h = absurd (omega arith)
+sum-take (suc i) (suc j) [] h = omega arith
+sum-take (suc i) (suc j) (x ∷ L) h = omega (arith, sum-take i j L (omega arith))
+
+-- more leaves have no fewer peptides
+upTo-mono : (F : Family) (i j : ℕ) → i ≤ j → peptidesUpTo F i ≤ peptidesUpTo F j
+unfolding peptidesUpTo
+upTo-mono F i j h = sum-take i j (F .lengths) h
+
+upTo-most : (F : Family) (i : ℕ) → i ≤ leaves F → peptidesUpTo F i ≤ sum (F .lengths)
+unfolding peptidesUpTo
+upTo-most F i h = rw take-length at (sum-take i (leaves F) (F .lengths) h)
+
+-- How the ranges of two regions lie, by their leaf numbers.
+
+after-fit : (F : Family) (r q : Region) → r .last < q .first → Fit (rangeOf F r) (rangeOf F q)
+unfolding rangeOf
+after-fit F r q h = isBefore h (upTo-mono F (r .last) (q .first - 1) (omega arith))
+
+inside-fit : (F : Family) (r q : Region) → r .first ≤ q .first → q .last ≤ r .last → r .first + q .last < q .first + r .last
+    → Fit (rangeOf F r) (rangeOf F q)
+unfolding rangeOf
+inside-fit F r q first last less =
+    let low = upTo-mono F (r .first - 1) (q .first - 1) (omega arith) in
+    isAround (record { left = first; right = last; less = less }) low (upTo-mono F (q .last) (r .last) last)
+
+-- The range of the k-th region.
+
+abbrev noRange : Family → Range
+noRange F = rangeOf F (record { first = 0; last = 0; z = 0 })
+
+pub ranges-length : (F : Family) → length (rangesOf F) ≡ regionCount F
+unfolding rangesOf
+ranges-length F = length-map (F .regions) (rangeOf F)
+
+range-at : (F : Family) (k : ℕ) → getD (rangesOf F) k (noRange F) ≡ rangeOf F (region F k)
+unfolding rangesOf region
+range-at F k = List·getD-map (rangeOf F) (F .regions) k (record { first = 0; last = 0; z = 0 })
+
+pub range-in : (F : Family) (k : ℕ) → k < regionCount F → In (rangeOf F (region F k)) (rangesOf F)
+range-in F k h = rw (range-at F k) at (in-at (noRange F) (rangesOf F) k (omega (arith, ranges-length F)))
+
+module _ {F : Family} (P : Placed F) where
+  region-fit : (i j : ℕ) → i < j → j < regionCount F → Fit (rangeOf F (region F i)) (rangeOf F (region F j))
+  region-fit i j less h = ⊎-elim (after-fit F (region F i) (region F j)) nest (P .nested i j less h)
+    where
+      nest : region F j .last ≤ region F i .last → Fit (rangeOf F (region F i)) (rangeOf F (region F j))
+      nest last =
+          let first = P .rising i j less h in
+          let shorter : region F i .first + region F j .last < region F j .first + region F i .last =
+          ⊎-elim (λ same. omega (arith, P .falling i j less h same)) (λ more. omega arith) (eq-or-lt-of-le first) in
+          inside-fit F (region F i) (region F j) first last shorter
+
+  region-proper : (k : ℕ) → k < regionCount F → Proper (F .peptides) (rangeOf F (region F k))
+  unfolding rangeOf
+  region-proper k h = record { order = P .order k h; ends = rw (P .sums) at (upTo-most F (region F k .last) (P .ends k h)) }
+
+  -- The ranges of a well-placed family are laminar.
+  pub family-laminar : Laminar (F .peptides) (rangesOf F)
+  family-laminar = laminar-at (noRange F) (rangesOf F) proper two
+    where
+      proper : (k : ℕ) → k < length (rangesOf F) → Proper (F .peptides) (getD (rangesOf F) k (noRange F))
+      proper k h = rw (range-at F k) (region-proper k (omega (arith, ranges-length F)))
+
+      two : (i j : ℕ) → i < j → j < length (rangesOf F) → Fit (getD (rangesOf F) i (noRange F)) (getD (rangesOf F) j (noRange F))
+      two i j less h = rw (range-at F i, range-at F j) (region-fit i j less (omega (arith, ranges-length F)))

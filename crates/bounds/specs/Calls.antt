@@ -1,0 +1,73 @@
+-- What the calls of `bounds` answer and write, defined from their inputs.
+use Prim.Native.Nat.{ℕ, _+_, _≤_}
+use mathlib.Core.Bool.{Bool, true, _||_}
+use mathlib.Core.List.{List, [], _∷_, _++_}
+use mathlib.Core.Path.{_≡_}
+use lib.ListN.{length}
+use lib.Dec.{ltb}
+use Rattle.reader.specs.Family.{Family, familyOf, regionCount}
+use Rattle.reader.specs.Causes.{Cause, firstCause, fileCauses}
+use Rattle.reader.specs.Calls.{Report, answer}
+use Rattle.bounds.specs.Selections.{cause14}
+use Rattle.bounds.specs.Curves.{cause11, cause12, repeated, cause13, cause15}
+use Rattle.bounds.specs.declared.Bounded.{Bounded}
+use Rattle.bounds.specs.declared.Bounded.the-variants as bounded
+use Rattle.bounds.specs.declared.Curved.{Curved}
+use Rattle.bounds.specs.declared.Curved.the-variants as curved
+use Rattle.bounds.specs.declared.CutFound.{CutFound}
+use Rattle.bounds.specs.declared.CutFound.the-variants as cutFound
+
+-- The number and the values of each case of an answer.
+
+unfoldable pub reportBound : Bounded → Report
+reportBound (bounded.Bound v) = record { number = 0; values = v ∷ [] }
+reportBound (bounded.Refused n) = record { number = n; values = [] }
+
+unfoldable pub reportCurve : Curved → Report
+reportCurve curved.Written = record { number = 0; values = [] }
+reportCurve (curved.Refused n) = record { number = n; values = [] }
+reportCurve (curved.Repeated p) = record { number = 13; values = p ∷ [] }
+
+unfoldable pub reportCut : CutFound → Report
+reportCut (cutFound.At t) = record { number = 0; values = t ∷ [] }
+reportCut (cutFound.Refused n) = record { number = n; values = [] }
+reportCut (cutFound.Repeated p) = record { number = 13; values = p ∷ [] }
+
+-- The causes of each call, in the order in which they are tried.
+
+-- an output with fewer places than needed
+unfoldable pub short : {A : Type 0} → ℕ → List A → Bool
+short needed out = ltb (length out) needed
+
+-- taken bytes or totals under K
+unfoldable pub selectionCauses : List ℕ → List ℕ → List ℕ → List Cause
+selectionCauses file selection out =
+    fileCauses file
+    ++ (record { number = 14; holds = cause14 (familyOf file .peptides) selection }
+    ∷ record { number = 16; holds = short (regionCount (familyOf file)) out }
+    ∷ [])
+
+unfoldable pub pathCauses : ℕ → List ℕ → List Cause
+pathCauses m path =
+    record { number = 11; holds = cause11 m path }
+    ∷ record { number = 12; holds = cause12 m path }
+    ∷ record { number = 13; holds = cause13 path }
+    ∷ []
+
+-- values under T + 1, marks under T
+unfoldable pub curveCauses : List ℕ → List ℕ → List ℕ → List ℕ → List Cause
+curveCauses file path values marks =
+    fileCauses file
+    ++ (pathCauses (familyOf file .peptides) path
+    ++ (record { number = 16; holds = short (length path + 1) values || short (length path) marks } ∷ []))
+
+unfoldable pub cutCauses : List ℕ → List ℕ → ℕ → ℕ → List Cause
+cutCauses file path a b =
+    fileCauses file ++ (pathCauses (familyOf file .peptides) path ++ (record { number = 15; holds = cause15 a b } ∷ []))
+
+-- The answer of a call with a path is the one that its causes and values give, but for number 13: with it comes one place,
+-- counted from 1, whose peptide stands earlier too; which such place is free.
+pub record Answers (cs : List Cause) (path values : List ℕ) (r : Report) : Type 0 where
+  pub number : r .number ≡ firstCause cs
+  pub values : (firstCause cs ≡ 13 → ⊥) → r .values ≡ answer cs values .values
+  pub place : firstCause cs ≡ 13 → (p : ℕ) × (1 ≤ p) × (p ≤ length path) × (r .values ≡ p ∷ []) × (repeated path p ≡ true)

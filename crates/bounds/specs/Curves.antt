@@ -1,0 +1,59 @@
+-- A path of different peptides, its curve and marks, and the cut.
+use Prim.Native.Nat.{ℕ, zero, suc, _+_, _-_, _*_}
+use mathlib.Core.Bool.{Bool, not, cond, _&&_, _||_}
+use mathlib.Core.List.{List}
+use lib.ListN.{length, getD, take}
+use lib.Dec.{eqb, leb, ltb}
+use Rattle.reader.specs.Lists.{tabulate, someBelow}
+use Rattle.reader.specs.Family.{Family}
+use Rattle.bounds.specs.Ranges.{Peptides, some, rangesOf}
+use Rattle.bounds.specs.Bound.{bound}
+
+-- the peptides of a list
+unfoldable pub among : List ℕ → Peptides
+among ps p = some (λ q. eqb p q) ps
+
+-- entry t of the curve: the bound of the first t peptides
+unfoldable pub entry : Family → List ℕ → ℕ → ℕ
+entry F path t = bound (F .peptides) (rangesOf F) (among (take t path))
+
+-- the entries 0 to T
+unfoldable pub curveValues : Family → List ℕ → List ℕ
+curveValues F path = tabulate (length path + 1) (entry F path)
+
+-- mark t is 1 exactly when entry t is one more than entry t - 1, else 0
+unfoldable pub markAt : Family → List ℕ → ℕ → ℕ
+markAt F path t = cond (eqb (entry F path t) (entry F path (t - 1) + 1)) 1 0
+
+-- the marks 1 to T
+unfoldable pub curveMarks : Family → List ℕ → List ℕ
+curveMarks F path = tabulate (length path) (λ i. markAt F path (i + 1))
+
+-- the largest number up to n that passes the test; 0 if none above 0 does
+unfoldable pub largestUpTo : ℕ → (ℕ → Bool) → ℕ
+largestUpTo zero p = 0
+largestUpTo (suc n) p = cond (p (suc n)) (suc n) (largestUpTo n p)
+
+-- the cut at q = a / b: the largest t at which entry t times b is at most a times t (it is at t = 0)
+unfoldable pub cutOf : Family → List ℕ → ℕ → ℕ → ℕ
+cutOf F path a b = largestUpTo (length path) (λ t. leb (entry F path t * b) (a * t))
+
+-- path longer than m
+unfoldable pub cause11 : ℕ → List ℕ → Bool
+cause11 m path = ltb m (length path)
+
+-- a path number 0 or over m
+unfoldable pub cause12 : ℕ → List ℕ → Bool
+cause12 m path = someBelow (length path) (λ i. eqb (getD path i 0) 0 || ltb m (getD path i 0))
+
+-- the peptide at place t, counted from 1, stands earlier too
+unfoldable pub repeated : List ℕ → ℕ → Bool
+repeated path t = someBelow (t - 1) (λ i. eqb (getD path i 0) (getD path (t - 1) 0))
+
+-- a peptide twice in the path
+unfoldable pub cause13 : List ℕ → Bool
+cause13 path = someBelow (length path) (λ i. repeated path (i + 1))
+
+-- b is 0, or a over b
+unfoldable pub cause15 : ℕ → ℕ → Bool
+cause15 a b = eqb b 0 || ltb b a
