@@ -67,7 +67,7 @@ cutCauses file path a b =
 
 -- The answer of a call with a path is the one that its causes and values give, but for number 13: with it comes one place,
 -- counted from 1, whose peptide stands earlier too; which such place is free.
-pub record Answers (cs : List Cause) (path values : List ℕ) (r : Report) : Type 0 where
+pub record Answers (cs : List Cause) (path result : List ℕ) (r : Report) : Type 0 where
   pub number : r .number ≡ firstCause cs
-  pub values : (firstCause cs ≡ 13 → ⊥) → r .values ≡ answer cs values .values
+  pub values : (firstCause cs ≡ 13 → ⊥) → r .values ≡ answer cs result .values
   pub place : firstCause cs ≡ 13 → (p : ℕ) × (1 ≤ p) × (p ≤ length path) × (r .values ≡ p ∷ []) × (repeated path p ≡ true)
