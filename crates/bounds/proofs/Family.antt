@@ -8,21 +8,14 @@ use native.Mathlib.Omega.{arith}
 use lib.ListN.{length, getD, take, length-map, List·getD-map}
 use lib.Seq.{take-length}
 use Rattle.reader.specs.Lists.{sum}
-use Rattle.reader.specs.Family.{Region, Family, leaves, regionCount, region, peptidesUpTo}
+use Rattle.reader.specs.Bytes.{IsBytes}
+use Rattle.reader.specs.Causes.{Accepted}
+use Rattle.reader.specs.WellFormed.{WellFormed}
+use Rattle.reader.proofs.Accepting.{well-formed}
+use Rattle.reader.specs.Family.{Region, Family, leaves, regionCount, region, peptidesUpTo, familyOf}
 use Rattle.bounds.specs.Ranges.{Range, rangeOf, rangesOf}
 use Rattle.bounds.proofs.Members.{In, in-at}
 use Rattle.bounds.proofs.Laminar.{Fit, isAround, isBefore, Proper, Laminar, laminar-at}
-
--- What is asked of a family: its leaves make up the peptides, its regions lie on the leaves,
--- and of two regions in file order the later one is after the earlier one, or inside it.
-pub record Placed (F : Family) : Type 0 where
-  pub sums : sum (F .lengths) ≡ F .peptides
-  pub starts : (k : ℕ) → k < regionCount F → 1 ≤ region F k .first
-  pub order : (k : ℕ) → k < regionCount F → region F k .first ≤ region F k .last
-  pub ends : (k : ℕ) → k < regionCount F → region F k .last ≤ leaves F
-  pub rising : (i j : ℕ) → i < j → j < regionCount F → region F i .first ≤ region F j .first
-  pub falling : (i j : ℕ) → i < j → j < regionCount F → region F i .first ≡ region F j .first → region F j .last < region F i .last
-  pub nested : (i j : ℕ) → i < j → j < regionCount F → (region F i .last < region F j .first) ⊎ (region F j .last ≤ region F i .last)
 
 sum-take : (i j : ℕ) (L : List ℕ) → i ≤ j → sum (take i L) ≤ sum (take j L)
 unfolding sum
@@ -69,22 +62,22 @@ range-at F k = List·getD-map (rangeOf F) (F .regions) k (record { first = 0; la
 pub range-in : (F : Family) (k : ℕ) → k < regionCount F → In (rangeOf F (region F k)) (rangesOf F)
 range-in F k h = rw (range-at F k) at (in-at (noRange F) (rangesOf F) k (omega (arith, ranges-length F)))
 
-module _ {F : Family} (P : Placed F) where
+module _ {F : Family} (w : WellFormed F) where
   region-fit : (i j : ℕ) → i < j → j < regionCount F → Fit (rangeOf F (region F i)) (rangeOf F (region F j))
-  region-fit i j less h = ⊎-elim (after-fit F (region F i) (region F j)) nest (P .nested i j less h)
+  region-fit i j less h = ⊎-elim (after-fit F (region F i) (region F j)) nest (w .nested i j less h)
     where
       nest : region F j .last ≤ region F i .last → Fit (rangeOf F (region F i)) (rangeOf F (region F j))
       nest last =
-          let first = P .rising i j less h in
+          let first = w .ordered .rising i j less h in
           let shorter : region F i .first + region F j .last < region F j .first + region F i .last =
-          ⊎-elim (λ same. omega (arith, P .falling i j less h same)) (λ more. omega arith) (eq-or-lt-of-le first) in
+          ⊎-elim (λ same. omega (arith, w .ordered .falling i j less h same)) (λ more. omega arith) (eq-or-lt-of-le first) in
           inside-fit F (region F i) (region F j) first last shorter
 
   region-proper : (k : ℕ) → k < regionCount F → Proper (F .peptides) (rangeOf F (region F k))
   unfolding rangeOf
-  region-proper k h = record { order = P .order k h; ends = rw (P .sums) at (upTo-most F (region F k .last) (P .ends k h)) }
+  region-proper k h = record { order = w .ordered .first-last k h; ends = rw (w .lengths-sum) at (upTo-most F (region F k .last) (w .ordered .last-leaf k h)) }
 
-  -- The ranges of a well-placed family are laminar.
+  -- The ranges of a well-formed family are laminar.
   pub family-laminar : Laminar (F .peptides) (rangesOf F)
   family-laminar = laminar-at (noRange F) (rangesOf F) proper two
     where
@@ -93,3 +86,6 @@ module _ {F : Family} (P : Placed F) where
 
       two : (i j : ℕ) → i < j → j < length (rangesOf F) → Fit (getD (rangesOf F) i (noRange F)) (getD (rangesOf F) j (noRange F))
       two i j less h = rw (range-at F i, range-at F j) (region-fit i j less (omega (arith, ranges-length F)))
+
+pub accepted-laminar : (s : List ℕ) → IsBytes s → Accepted s → Laminar (familyOf s .peptides) (rangesOf (familyOf s))
+accepted-laminar s bytes a = family-laminar (well-formed s bytes a)
