@@ -9,3 +9,4 @@ pub mod First
 pub mod Climbing
 pub mod Accepting
 pub mod Files
+pub mod Examples

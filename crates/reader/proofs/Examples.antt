@@ -1,0 +1,99 @@
+-- Worked examples of the check: the eight-peptide family, and the edges of causes 2, 4 and 10.
+use Prim.Native.Nat.{ℕ, _+_, _*_, _-_}
+use mathlib.Core.Bool.{Bool, true, false, not, cond, _&&_, _||_}
+use mathlib.Core.List.{List, [], _∷_, _++_}
+use mathlib.Core.Path.{_≡_, refl}
+use lib.ListN.{replicate, drop}
+use Rattle.reader.specs.Lists.{tabulate, sum, sameList, someBelow, countBelow, firstBelow}
+use Rattle.reader.specs.Bytes.{numberAt, bytesOf}
+use Rattle.reader.specs.Family.{Region, Family, region, mark, lengthAt, regionAt, familyOf, regionFields, fields, fileOf}
+use Rattle.reader.specs.Nesting.{before, shareLeaf, within, crossing, inside, justInside, parent, parents}
+use Rattle.reader.specs.Causes.{cause1, cause2, cause3, cause4, cause5, cause6, cause7, cause8, cause9, cause10, misplaced, firstCause, headerCauses, familyCauses, fileCauses, Accepted}
+use Rattle.reader.specs.Calls.{Report, answer, checked, regionPart}
+
+abbrev range : ℕ → ℕ → ℕ → Region
+range a b z = record { first = a; last = b; z = z }
+
+-- leaf lengths 2, 3, 1, 2; regions (1,2,3), (1,1,2), (2,2,1), (3,4,3), (4,4,0)
+abbrev pub eight : Family
+eight =
+    record {
+      peptides = 8;
+      lengths = 2 ∷ 3 ∷ 1 ∷ 2 ∷ [];
+      regions = range 1 2 3 ∷ range 1 1 2 ∷ range 2 2 1 ∷ range 3 4 3 ∷ range 4 4 0 ∷ [];
+    }
+
+abbrev pub eightFile : List ℕ
+eightFile =
+    0x50 ∷ 0x48 ∷ 0x46 ∷ 0x42 ∷ 8 ∷ 0 ∷ 4 ∷ 0 ∷ 5 ∷ 0 ∷ 16 ∷ 0 ∷ 24 ∷ 0 ∷ 54 ∷ 0
+    ∷ 2 ∷ 0 ∷ 3 ∷ 0 ∷ 1 ∷ 0 ∷ 2 ∷ 0
+    ∷ 1 ∷ 0 ∷ 2 ∷ 0 ∷ 3 ∷ 0
+    ∷ 1 ∷ 0 ∷ 1 ∷ 0 ∷ 2 ∷ 0
+    ∷ 2 ∷ 0 ∷ 2 ∷ 0 ∷ 1 ∷ 0
+    ∷ 3 ∷ 0 ∷ 4 ∷ 0 ∷ 3 ∷ 0
+    ∷ 4 ∷ 0 ∷ 4 ∷ 0 ∷ 0 ∷ 0
+    ∷ []
+
+-- one leaf of each peptide, and the n regions from leaf 1 to the leaves n, n - 1, .., 1, each inside the one before
+pub nest : ℕ → Family
+nest n = record { peptides = n; lengths = replicate n 1; regions = tabulate n (λ k. range 1 (n - k) 1) }
+
+-- N leaves with all 2N - 1 regions of a comb: the leaf j to the end, and the leaf j
+pub comb : Family
+comb =
+    record {
+      peptides = 3;
+      lengths = 1 ∷ 1 ∷ 1 ∷ [];
+      regions = range 1 3 1 ∷ range 1 1 1 ∷ range 2 3 1 ∷ range 2 2 1 ∷ range 3 3 1 ∷ [];
+    }
+
+-- the same with one region more than 2N - 1
+pub crowded : Family
+crowded = record { peptides = 3; lengths = 1 ∷ 1 ∷ 1 ∷ []; regions = tabulate 6 (λ k. range 1 (6 - k) 1) }
+
+-- one leaf with all peptides
+pub line : ℕ → Family
+line m = record { peptides = m; lengths = m ∷ []; regions = [] }
+
+-- the number that the check gives the file of a family; naming it opens every definition on the way
+pub number : Family → ℕ
+unfolding tabulate sum sameList someBelow countBelow numberAt bytesOf region mark lengthAt regionAt familyOf regionFields fields fileOf before shareLeaf within crossing inside cause1 cause2 cause3 cause4 cause5 cause6 cause7 cause8 cause9 cause10 misplaced firstCause headerCauses familyCauses fileCauses
+number F = firstCause (fileCauses (fileOf F))
+
+pub eight-written : fileOf eight ≡ eightFile
+unfolding number
+eight-written = refl
+
+pub eight-accepted : checked eightFile ≡ record { number = 0; values = 8 ∷ 4 ∷ 5 ∷ [] }
+unfolding number answer checked
+eight-accepted = refl
+
+pub eight-regions : regionPart eightFile ≡ drop 24 eightFile
+unfolding number regionPart
+eight-regions = refl
+
+-- regions 2 and 3 lie just inside region 1, region 5 just inside region 4
+pub eight-parents : parents eight ≡ 0 ∷ 1 ∷ 1 ∷ 0 ∷ 4 ∷ []
+unfolding number firstBelow justInside parent parents
+eight-parents = refl
+
+-- The edges: each family on the line is accepted, and one step beyond it gives its number.
+pub record Edges : Type 0 where
+  pub most-peptides : number (line 4096) ≡ 0
+  pub too-many-peptides : number (line 4097) ≡ 2
+  pub most-regions : number comb ≡ 0
+  pub too-many-regions : number crowded ≡ 4
+  pub deepest : number (nest 64) ≡ 0
+  pub too-deep : number (nest 65) ≡ 10
+
+pub edges : Edges
+unfolding number nest comb crowded line
+edges =
+    record {
+      most-peptides = refl;
+      too-many-peptides = refl;
+      most-regions = refl;
+      too-many-regions = refl;
+      deepest = refl;
+      too-deep = refl;
+    }
