@@ -1,0 +1,105 @@
+-- Equal curves and equal admissible sets are the same thing.
+use Prim.Native.Nat.{ℕ, _+_, _≤_, _<_}
+use mathlib.Core.Bool.{false, _&&_}
+use mathlib.Core.List.{List}
+use mathlib.Core.Path.{_≡_, sym, _∙_, ap, fun-ext}
+use native.Mathlib.Omega.{arith}
+use lib.ListN.{length, getD, take}
+use lib.Seq.{take-length}
+use Rattle.reader.specs.Lists.{tabulate}
+use Rattle.reader.specs.Family.{Family}
+use Rattle.reader.proofs.Lists.{getD-tabulate}
+use Rattle.reader.proofs.Bools.{passes}
+use Rattle.bounds.specs.Ranges.{Range, Peptides, rangesOf, card}
+use Rattle.bounds.specs.Bound.{bound, IsLargest}
+use Rattle.bounds.specs.Curves.{among, entry, curveValues}
+use Rattle.bounds.proofs.Members.{clash, and-l, and-r, and-both, refuted}
+use Rattle.bounds.proofs.Counting.{Subset, card-mono, card-less, count-mono}
+use Rattle.bounds.proofs.Laminar.{Laminar}
+use Rattle.bounds.proofs.Greedy.{Respects, respects-facts}
+use Rattle.bounds.proofs.Formula.{formula3, bound-most}
+use Rattle.reduction.specs.Alike.{IsPath, Alike}
+use Rattle.reduction.proofs.Listing.{listing, among-listing, listing-among, listing-path}
+use Rattle.reduction.proofs.Live.{SameAdmissible}
+
+-- With the same admissible sets every selection has the same bound.
+
+bound-no-more : {m : ℕ} {Q R : List Range} → Laminar m Q → Laminar m R → ((A : Peptides) → Respects m Q A → Respects m R A)
+    → (S : Peptides) → bound m Q S ≤ bound m R S
+bound-no-more {m} {Q} lQ lR there S =
+    let f = formula3 lQ S in
+    omega (arith, f .reached, bound-most lR S (f .witness) (there (f .witness) (respects-facts m Q (f .witness) (f .admissible))))
+
+same-bounds : {m : ℕ} {Q R : List Range} → Laminar m Q → Laminar m R → SameAdmissible m Q R → (S : Peptides) → bound m Q S ≡ bound m R S
+same-bounds lQ lR same S = omega (arith, bound-no-more lQ lR (same .there) S, bound-no-more lR lQ (same .back) S)
+
+-- With bounds no smaller, along every path, every admissible set is admissible: the path of the set ends at the set's size,
+-- so the largest admissible set on that path has all of it.
+
+module _ {m : ℕ} {Q R : List Range} (lQ : Laminar m Q) (lR : Laminar m R)
+    (less : (path : List ℕ) → IsPath m path → bound m Q (among path) ≤ bound m R (among path)) (A : Peptides) (h : Respects m Q A) where
+  path : List ℕ
+  path = listing m A
+
+  largest : IsLargest m R (among path) (bound m R (among path))
+  largest = formula3 lR (among path)
+
+  abbrev W : Peptides
+  W = largest .witness
+
+  size : card m A ≤ card m (λ p. W p && among path p)
+  unfolding path
+  size =
+      let on : Subset m A (λ p. A p && among path p) =
+      λ p l u e. and-both (A p) (among path p) e (listing-among m A p (record { positive = l; small = u; chosen = e }))
+      in
+      omega (arith, card-mono m A (λ p. A p && among path p) on, bound-most lQ (among path) A h, less path (listing-path m A), largest .reached)
+
+  all : Subset m A W
+  unfolding path
+  all p l u e = passes (W p) (λ t. omega (arith, size, fewer t))
+    where
+      fewer : W p ≡ false → card m (λ q. W q && among path q) < card m A
+      fewer t =
+          card-less m p (λ q. W q && among path q) A (λ q k v f. among-listing m A q (and-r (W q) (among path q) f) .chosen) l u
+          (refuted _ (λ f. clash (and-l (W p) (among path p) f) t)) e
+
+  bounds-admissible : Respects m R A
+  bounds-admissible r i = omega (arith, respects-facts m R W (largest .admissible) r i, count-mono m A W r (λ p l u k e. all p l u e))
+
+-- Two families.
+
+-- the last entry is the bound of the whole path
+last-entry : (F : Family) (path : List ℕ) → getD (curveValues F path) (length path) 0 ≡ bound (F .peptides) (rangesOf F) (among path)
+unfolding curveValues entry
+last-entry F path =
+    getD-tabulate (length path + 1) (entry F path) 0 (length path) (omega arith)
+    ∙ ap (λ l. bound (F .peptides) (rangesOf F) (among l)) (take-length path)
+
+module _ (F G : Family) (lF : Laminar (F .peptides) (rangesOf F)) (lG : Laminar (G .peptides) (rangesOf G)) where
+  -- Families with the same curves have the same admissible sets,
+  pub alike-admissible : Alike F G → SameAdmissible (F .peptides) (rangesOf F) (rangesOf G)
+  alike-admissible a =
+      record {
+        there = bounds-admissible lF lG′ (λ path h. omega (arith, last path h));
+        back = bounds-admissible lG′ lF (λ path h. omega (arith, last path h));
+      }
+    where
+      lG′ : Laminar (F .peptides) (rangesOf G)
+      lG′ = rw (a .peptides) lG
+
+      last : (path : List ℕ) → IsPath (F .peptides) path
+          → bound (F .peptides) (rangesOf F) (among path) ≡ bound (F .peptides) (rangesOf G) (among path)
+      last path h =
+          sym (last-entry F path) ∙ ap (λ l. getD l (length path) 0) (a .curves path h) ∙ last-entry G path
+          ∙ ap (λ n. bound n (rangesOf G) (among path)) (sym (a .peptides))
+
+  -- and families with the same admissible sets have the same curves.
+  pub admissible-alike : F .peptides ≡ G .peptides → SameAdmissible (F .peptides) (rangesOf F) (rangesOf G) → Alike F G
+  unfolding curveValues entry
+  admissible-alike e same = record { peptides = e; curves = λ path h. ap (tabulate (length path + 1)) (fun-ext (entries path)) }
+    where
+      entries : (path : List ℕ) (t : ℕ) → entry F path t ≡ entry G path t
+      entries path t =
+          let S = among (take t path) in
+          same-bounds lF (rw e lG) same S ∙ ap (λ n. bound n (rangesOf G) S) e

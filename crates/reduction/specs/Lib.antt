@@ -1,0 +1,3 @@
+-- The definitions that the promises of `reduction` are written with.
+pub mod Reduction
+pub mod Alike

@@ -1,0 +1,1 @@
+// The reduced file, and the comparison of two families.
