@@ -1,3 +1,5 @@
 -- The definitions that the promises of `reduction` are written with.
 pub mod Reduction
 pub mod Alike
+pub mod Steps
+pub mod Calls

@@ -1,1 +1,14 @@
-// The reduced file, and the comparison of two families.
+// The reduced file of a family, the one form in which its bounds are printed, and the comparison of two families.
+
+// The reduced file's length and number of regions, or the number of the first cause that holds.
+pub enum Reduced {
+    Written { length: u16, regions: u16 },
+    Refused(u16),
+}
+
+// Whether two reductions are equal, or the number of the first cause that holds.
+pub enum Compared {
+    Same,
+    Different,
+    Refused(u16),
+}
