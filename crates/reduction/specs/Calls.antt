@@ -9,14 +9,14 @@ use Rattle.reader.specs.Causes.{Cause, fileCauses}
 use Rattle.reader.specs.Calls.{Report}
 use Rattle.bounds.specs.Calls.{short}
 use Rattle.reduction.specs.Reduction.{reducedFile}
-use Rattle.reduction.specs.declared.Reduced.{Reduced}
-use Rattle.reduction.specs.declared.Reduced.the-variants as made
+use Rattle.reduction.specs.declared.ReducedFile.{ReducedFile}
+use Rattle.reduction.specs.declared.ReducedFile.the-variants as made
 use Rattle.reduction.specs.declared.Compared.{Compared}
 use Rattle.reduction.specs.declared.Compared.the-variants as compared
 
 -- The number and the values of each case of an answer.
 
-unfoldable pub reportReduced : Reduced → Report
+unfoldable pub reportReduced : ReducedFile → Report
 reportReduced (made.Written length regions) = record { number = 0; values = length ∷ regions ∷ [] }
 reportReduced (made.Refused n) = record { number = n; values = [] }
 
