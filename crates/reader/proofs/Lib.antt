@@ -8,4 +8,5 @@ pub mod Walk
 pub mod First
 pub mod Climbing
 pub mod Accepting
+pub mod ParentLaws
 pub mod Files
