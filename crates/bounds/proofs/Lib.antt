@@ -10,3 +10,4 @@ pub mod Paths
 pub mod Taken
 pub mod Family
 pub mod Holding
+pub mod Walking
