@@ -189,7 +189,7 @@ counted-starts F C leaf c h =
 pub counted-ends : (F : Family) (C : List ℕ) (leaf : ℕ) (D : List ℕ) (c : ℕ) → CountedFrom F C leaf D c → c ≡ 0 → CountedOne F C leaf D
 counted-ends F C leaf D c h e = record { same = h .same; counted = λ i l. h .counted i (omega arith) l }
 
-module _ (F : Family) (o : Ordered F) (nested : NestedBelow F (regionCount F)) (leaf c : ℕ) (chain : Chain F leaf c) (some : c ≡ 0 → ⊥) (C D : List ℕ) (room : regionCount F ≤ length C) where
+module _ (F : Family) (o : Ordered F) (nested : NestedBelow F (regionCount F)) (leaf c : ℕ) (chain : Chain F leaf c) (some : c ≡ 0 → ⊥) (C D : List ℕ) (room : c ≤ length C) where
   pub counted-steps : (p : ℕ) → IsParent F (c - 1) p → CountedFrom F C leaf D c → CountedFrom F C leaf (set D (c - 1) (getD D (c - 1) 0 + 1)) p
   counted-steps p par h =
       let j : ℕ = c - 1 in
@@ -206,7 +206,7 @@ module _ (F : Family) (o : Ordered F) (nested : NestedBelow F (regionCount F)) (
             ∙ rw (chain-passes F o nested leaf c chain some p par i l d) (omega arith))
             (λ d.
             ⊎-elim
-            (λ e. rw (e, getD-set-same D j v 0 (omega (arith, h .same, chain .0)), h .before j (omega arith), chain-here F o nested leaf c chain some))
+            (λ e. rw (e, getD-set-same D j v 0 (omega (arith, h .same)), h .before j (omega arith), chain-here F o nested leaf c chain some))
             (λ a. getD-set-other D j i v 0 (λ e. omega arith) ∙ h .counted i a u)
             d)
             (at-or-beside i c some);

@@ -11,3 +11,4 @@ pub mod Taken
 pub mod Family
 pub mod Holding
 pub mod Walking
+pub mod PathLaws

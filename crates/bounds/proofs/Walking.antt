@@ -4,7 +4,7 @@ use mathlib.Core.Bool.{Bool, true, false, not, cond, _&&_}
 use mathlib.Core.List.{List, [], _∷_, _++_}
 use mathlib.Core.Logic.{_⊎_, ⊎-elim}
 use mathlib.Core.Path.{_≡_, refl, sym, ap, subst, _∙_}
-use native.Mathlib.Nat.{eq-or-lt-of-le}
+use native.Mathlib.Nat.{mul-le-mul}
 use native.Mathlib.Numerals.{add-one}
 use native.Mathlib.Omega.{arith}
 use lib.ListN.{length, getD, take, drop, set}
@@ -17,10 +17,10 @@ use Rattle.reader.specs.WellFormed.{WellFormed}
 use Rattle.reader.proofs.Below.{some-at, found}
 use Rattle.reader.proofs.Lists.{length-tabulate}
 use Rattle.reader.proofs.Walk.{FirstReaching, leaf-found}
-use Rattle.bounds.specs.Ranges.{Range, Peptides, rangeOf, rangesOf, has, count}
+use Rattle.bounds.specs.Ranges.{Range, Peptides, rangeOf, rangesOf, has, card, count}
 use Rattle.bounds.specs.Curves.{among, entry, curveValues, markAt, curveMarks, largestUpTo, cutOf}
 use Rattle.bounds.specs.Walks.{Walkable, holdsLeaf, crowded, Stepped}
-use Rattle.bounds.proofs.Members.{test, clash, refuted, both-ways, and-l, and-r, and-both, bit, le-or-lt, In, Place, place}
+use Rattle.bounds.proofs.Members.{test, clash, refuted, both-ways, and-l, and-r, and-both, bit, bit-mono, le-or-lt, In, Place, place}
 use Rattle.bounds.proofs.Counting.{none, card-none, adding, count-none, count-adding, count-adding-other}
 use Rattle.bounds.proofs.Nesting.{has-facts, has-holds}
 use Rattle.bounds.proofs.Greedy.{Stopped, blocked, blocked-facts, blocked-holds, mark, among-facts, greedy, greedy-snoc, greedy-new}
@@ -113,6 +113,16 @@ module _ {F : Family} (w : WellFormed F) (G : Peptides) (C : List ℕ) (counts :
       (λ t. rw t (omega (arith, count-adding (F .peptides) p G (rangeAt F k) some most fresh (leaf ∙ t))))
       (λ f. rw f (omega (arith, count-adding-other (F .peptides) p G (rangeAt F k) (leaf ∙ f))))
       (test (holdsLeaf F (leafOf F p) k))
+
+-- a count is at most m
+card-most : (m : ℕ) (X : Peptides) → card m X ≤ m
+unfolding card
+card-most zero X = omega arith
+card-most (suc m) X = omega (arith, card-most m X, bit-mono (X (suc m)) true (λ t. refl))
+
+pub counts-most : (F : Family) (G : Peptides) (C : List ℕ) → WellFormed F → Counts F G C → (k : ℕ) → k < regionCount F → getD C k 0 < 65535
+unfolding count
+counts-most F G C w counts k h = omega (arith, counts k h, card-most (F .peptides) (λ p. has (rangeAt F k) p && G p), w .peptides-most)
 
 -- A path of different peptides.
 
@@ -242,3 +252,10 @@ largest-next t p = rw add-one
 pub largest-none : (p : ℕ → Bool) → largestUpTo 0 p ≡ 0
 unfolding largestUpTo
 largest-none p = refl
+
+-- a product of two 16-bit numbers fits 32 bits
+pub product-fits : (a b : ℕ) → a < 65536 → b < 65536 → a * b < 4294967296
+product-fits a b ha hb =
+    let x : a ≤ 65535 = omega arith in
+    let y : b ≤ 65535 = omega arith in
+    omega (arith, mul-le-mul x y)

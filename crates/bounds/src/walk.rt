@@ -7,16 +7,16 @@ use reader::family::Peptide;
 use reader::family::leaf_of;
 use reader::family::region_of;
 ghost use mathlib.Core.Path.{_≡_};
-ghost use mathlib.Core.Bool.{true, cond};
+ghost use mathlib.Core.Bool.{cond};
 ghost use mathlib.Core.List.{_++_};
 ghost use Prim.Native.Nat.{ℕ, _+_, _*_, _<_, _≤_};
 ghost use lib.ListN.{length, getD, drop};
 ghost use lib.Dec.{leb};
-ghost use Rattle.reader.specs.Family.{familyOf, regionCount, region};
-ghost use Rattle.reader.specs.WellFormed.{Ordered, WellFormed};
+ghost use Rattle.reader.specs.Family.{Family, familyOf, regionCount};
+ghost use Rattle.reader.specs.WellFormed.{Ordered};
 ghost use Rattle.reader.specs.Climb.{Nested};
 ghost use Rattle.bounds.specs.Curves.{curveValues, curveMarks, cutOf};
-ghost use Rattle.bounds.specs.Walks.{Walkable, Begun, LastHolding, holdsLeaf, crowded, CountedOne, Stepped};
+ghost use Rattle.bounds.specs.Walks.{Walkable, Begun, LastHolding, crowded, CountedOne, Stepped};
 
 // How many regions begin at the leaf or before it.
 fn begun(file: &[u8], leaf: Leaf) -> u16
@@ -58,11 +58,11 @@ fn innermost(file: &[u8], parents: &[u16], leaf: Leaf) -> u16
 }
 
 // Whether the region of that number, or one around it, already has z marked peptides.
-fn is_crowded(file: &[u8], parents: &[u16], counts: &[u16], leaf: Leaf, inner: u16) -> bool
+fn is_crowded(file: &[u8], parents: &[u16], counts: &[u16], inner: u16) -> bool
     requires { ⌜ Nested (familyOf (now file)) (now parents) ⌝ }
     requires { ⌜ regionCount (familyOf (now file)) ≤ length (now counts) ⌝ }
-    requires { ⌜ LastHolding (familyOf (now file)) (leaf .0) inner ⌝ }
-    ensures { λ r. ⌜ r ≡ crowded (familyOf (now (file .entry))) (now (counts .entry)) (leaf .0) ⌝ }
+    requires { ⌜ inner ≤ regionCount (familyOf (now file)) ⌝ }
+    ensures { λ r. ⌜ ((leaf : ℕ) → LastHolding (familyOf (now (file .entry))) leaf inner → r ≡ crowded (familyOf (now (file .entry))) (now (counts .entry)) leaf) ⌝ }
 {
     let mut number = inner;
     while number != 0 {
@@ -77,12 +77,10 @@ fn is_crowded(file: &[u8], parents: &[u16], counts: &[u16], leaf: Leaf, inner: u
 }
 
 // Counts one marked peptide in the region of that number and in all around it.
-fn count_mark(file: &[u8], parents: &[u16], counts: &mut [u16], leaf: Leaf, inner: u16)
-    requires { ⌜ Nested (familyOf (now file)) (now parents) ⌝ }
-    requires { ⌜ regionCount (familyOf (now file)) ≤ length (now counts) ⌝ }
-    requires { ⌜ LastHolding (familyOf (now file)) (leaf .0) inner ⌝ }
-    requires { ⌜ ((k : ℕ) → k < regionCount (familyOf (now file)) → holdsLeaf (familyOf (now file)) (leaf .0) k ≡ true → getD (now counts) k 0 < 65535) ⌝ }
-    ensures { λ _. ⌜ CountedOne (familyOf (now (file .entry))) (now (counts .entry)) (leaf .0) (now (counts .exit)) ⌝ }
+fn count_mark(parents: &[u16], counts: &mut [u16], inner: u16)
+    requires { ⌜ (inner ≤ length (now parents)) × (inner ≤ length (now counts)) ⌝ }
+    requires { ⌜ ((k : ℕ) → k < inner → (getD (now parents) k 0 ≤ k) × (getD (now counts) k 0 < 65535)) ⌝ }
+    ensures { λ _. ⌜ ((F : Family) (leaf : ℕ) → Nested F (now (parents .entry)) → LastHolding F leaf inner → CountedOne F (now (counts .entry)) leaf (now (counts .exit))) ⌝ }
 {
     let mut number = inner;
     while number != 0 {
@@ -92,19 +90,18 @@ fn count_mark(file: &[u8], parents: &[u16], counts: &mut [u16], leaf: Leaf, inne
     }
 }
 
-// Marks the peptide unless a region that holds it is crowded: 1 if it is marked, else 0. The counts are kept.
+// Marks the peptide unless a region that holds it is crowded: 1 if it is marked, else 0. The counts go up by it.
 fn mark_next(file: &[u8], parents: &[u16], counts: &mut [u16], peptide: Peptide) -> u8
-    requires { ⌜ WellFormed (familyOf (now file)) ⌝ }
     requires { ⌜ Nested (familyOf (now file)) (now parents) ⌝ }
     requires { ⌜ regionCount (familyOf (now file)) ≤ length (now counts) ⌝ }
+    requires { ⌜ ((k : ℕ) → k < regionCount (familyOf (now file)) → getD (now counts) k 0 < 65535) ⌝ }
     ensures { λ r. ⌜ Stepped (familyOf (now (file .entry))) (now (counts .entry)) (peptide .0) (now (counts .exit)) r ⌝ }
 {
-    let leaf = leaf_of(file, peptide);
-    let inner = innermost(file, parents, leaf);
-    if is_crowded(file, parents, counts, leaf, inner) {
+    let inner = innermost(file, parents, leaf_of(file, peptide));
+    if is_crowded(file, parents, counts, inner) {
         return 0;
     }
-    count_mark(file, parents, counts, leaf, inner);
+    count_mark(parents, counts, inner);
     1
 }
 
