@@ -11,11 +11,11 @@ use lib.Seq.{getD-set-same, getD-set-other}
 use lib.Dec.{leb}
 use borrow.Author.Tests.{leb-true, le-leb, lt-leb}
 use Rattle.reader.specs.Lists.{someBelow}
-use Rattle.reader.specs.Family.{Family, regionCount, region}
+use Rattle.reader.specs.Family.{Family, regionCount, region, leafOf}
 use Rattle.reader.specs.WellFormed.{Ordered, NestedBelow, IsParent}
 use Rattle.reader.proofs.Below.{some-at, none-below}
-use Rattle.bounds.specs.Walks.{holdsLeaf, Begun, LastHolding, crowded, CountedOne}
-use Rattle.bounds.proofs.Members.{clash, refuted, and-l, and-r, and-both, le-or-lt, bit}
+use Rattle.bounds.specs.Walks.{holdsLeaf, Begun, LastHolding, crowded, CountedOne, Stepped}
+use Rattle.bounds.proofs.Members.{test, refuted, and-l, and-r, and-both, le-or-lt, bit}
 
 -- Numbers up to and from a number.
 
@@ -211,3 +211,17 @@ module _ (F : Family) (o : Ordered F) (nested : NestedBelow F (regionCount F)) (
             d)
             (at-or-beside i c some);
       }
+
+-- A whole step.
+
+module _ (F : Family) (C : List ℕ) (p : ℕ) where
+  pub step-stays : crowded F C (leafOf F p) ≡ true → Stepped F C p C 0
+  step-stays h =
+      record {
+        same = refl;
+        marked = rw h;
+        counted = λ k l. ⊎-elim (λ t. rw t (omega arith)) (λ f. rw f (omega arith)) (test (holdsLeaf F (leafOf F p) k));
+      }
+
+  pub step-counts : (D : List ℕ) → crowded F C (leafOf F p) ≡ false → CountedOne F C (leafOf F p) D → Stepped F C p D 1
+  step-counts D h one = record { same = one .same; marked = rw h; counted = one .counted }

@@ -12,3 +12,4 @@ pub mod Family
 pub mod Holding
 pub mod Walking
 pub mod PathLaws
+pub mod Answering

@@ -8,7 +8,7 @@ use native.Mathlib.Nat.{mul-le-mul}
 use native.Mathlib.Numerals.{add-one}
 use native.Mathlib.Omega.{arith}
 use lib.ListN.{length, getD, take, drop, set}
-use lib.Seq.{take-suc, getD-take, drop-cons, set-at, append-snoc, length-take-le}
+use lib.Seq.{take-suc, getD-take, drop-cons, set-at, append-snoc, length-take-le, drop-set-lt}
 use lib.Dec.{leb, eqb}
 use borrow.Author.Tests.{leb-true, le-leb, eq-eqb, ne-eqb}
 use Rattle.reader.specs.Lists.{tabulate}
@@ -240,9 +240,9 @@ pub write-none : (f : ℕ → ℕ) (xs : List ℕ) → xs ≡ tabulate 0 f ++ dr
 unfolding tabulate
 write-none f xs = refl
 
-pub write-first : (f : ℕ → ℕ) (xs : List ℕ) (v : ℕ) → 0 < length xs → v ≡ f 0 → set xs 0 v ≡ tabulate (0 + 1) f ++ drop (0 + 1) xs
+pub write-first : (f : ℕ → ℕ) (xs : List ℕ) (v : ℕ) → 0 < length xs → v ≡ f 0 → set xs 0 v ≡ tabulate (0 + 1) f ++ drop (0 + 1) (set xs 0 v)
 unfolding tabulate
-write-first f xs v h e = write-more f xs 0 v h e
+write-first f xs v h e = rw (drop-set-lt 1 xs 0 v (omega arith)) (write-more f xs 0 v h e)
 
 -- the largest number that passes, one number further
 pub largest-next : (t : ℕ) (p : ℕ → Bool) → largestUpTo (t + 1) p ≡ cond (p (t + 1)) (t + 1) (largestUpTo t p)
