@@ -122,6 +122,10 @@ module _ (path : List ℕ) where
   unfolding firstRepeat cause13
   repeat-holds h = ⊎-elim (λ t. t) (λ f. absurd (h (first-none (λ i. repeated path (i + 1)) (length path) f))) (test (cause13 path))
 
+  -- a place found as the first repeat is one
+  pub repeat-is : (p : ℕ) → 1 ≤ p → p ≡ firstRepeat path → RepeatedAt p
+  repeat-is p some e = subst RepeatedAt (sym e) (repeat-found (repeat-holds (λ z. omega arith)))
+
 -- What the causes say of the numbers on a path.
 
 -- the number at a place, counted from 0, is 0 or over m
