@@ -56,8 +56,8 @@ module _ (F : Family) (o : Ordered F) (leaf low high : ℕ) (inv : Between F lea
     omega arith,
     inv .1,
     λ i u.
-    let v : i ≤ k = omega arith in
-    ⊎-elim (λ e. rw e h) (λ d. omega (arith, o .rising i k d (omega (arith, inv .1)))) (eq-or-lt-of-le v),
+        let v : i ≤ k = omega arith in
+        ⊎-elim (λ e. rw e h) (λ d. omega (arith, o .rising i k d (omega (arith, inv .1)))) (eq-or-lt-of-le v),
     inv .3,
   )
 
@@ -102,10 +102,10 @@ module _ (F : Family) (leaf c : ℕ) (inv : Climbing F leaf c) where
       omega (arith, par .earlier, inv .0),
       λ i l. inv .1 i (omega (arith, par .earlier)),
       λ i l u.
-      ⊎-elim
-      (λ d. not-holding F leaf i (λ x y. omega (arith, par .innermost i d (omega arith) .0)))
-      (λ d. ⊎-elim (λ e. rw e (not-holding F leaf (c - 1) (λ x y. omega arith))) (λ a. inv .2 i a u) d)
-      (at-or-beside i c some),
+          ⊎-elim
+          (λ d. not-holding F leaf i (λ x y. omega (arith, par .innermost i d (omega arith) .0)))
+          (λ d. ⊎-elim (λ e. rw e (not-holding F leaf (c - 1) (λ x y. omega arith))) (λ a. inv .2 i a u) d)
+          (at-or-beside i c some),
     )
 
 -- The chain of parents from the last region that holds the leaf: all of it holds the leaf, and nothing that it passes by does.

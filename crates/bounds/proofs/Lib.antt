@@ -13,3 +13,4 @@ pub mod Holding
 pub mod Walking
 pub mod PathLaws
 pub mod Answering
+pub mod CurveTheorem

@@ -220,7 +220,10 @@ module _ (s path : List ℕ) where
         well = well;
         nested = record { ordered = well .ordered; nested = well .nested; known = parents; few = few-regions s (accepted-header s accepted); room = room };
         short = path-short (F .peptides) path n;
-        some = λ i l. path-numbers (F .peptides) path n i l .0;
-        most = λ i l. path-numbers (F .peptides) path n i l .1;
-        differ = path-differs path d;
+        different =
+            record {
+              some = λ i l. path-numbers (F .peptides) path n i l .0;
+              most = λ i l. path-numbers (F .peptides) path n i l .1;
+              differ = path-differs path d;
+            };
       }

@@ -19,7 +19,8 @@ use Rattle.reader.proofs.Lists.{length-tabulate}
 use Rattle.reader.proofs.Walk.{FirstReaching, leaf-found}
 use Rattle.bounds.specs.Ranges.{Range, Peptides, rangeOf, rangesOf, has, card, count}
 use Rattle.bounds.specs.Curves.{among, entry, curveValues, markAt, curveMarks, largestUpTo, cutOf}
-use Rattle.bounds.specs.Walks.{Walkable, holdsLeaf, crowded, Stepped}
+use Rattle.bounds.specs.Paths.{IsPath}
+use Rattle.bounds.specs.Walks.{holdsLeaf, crowded, Stepped}
 use Rattle.bounds.proofs.Members.{test, clash, refuted, both-ways, and-l, and-r, and-both, bit, bit-mono, le-or-lt, In, Place, place}
 use Rattle.bounds.proofs.Counting.{none, card-none, adding, count-none, count-adding, count-adding-other}
 use Rattle.bounds.proofs.Nesting.{has-facts, has-holds}
@@ -126,7 +127,7 @@ counts-most F G C w counts k h = omega (arith, counts k h, card-most (F .peptide
 
 -- A path of different peptides.
 
-module _ {F : Family} {path P : List ℕ} (walk : Walkable F path P) where
+module _ {F : Family} {path : List ℕ} (well : WellFormed F) (is : IsPath (F .peptides) path) where
   -- the peptides marked among the first t
   abbrev pub markedSet : ℕ → Peptides
   markedSet t = greedy (F .peptides) (rangesOf F) none (take t path)
@@ -136,7 +137,7 @@ module _ {F : Family} {path P : List ℕ} (walk : Walkable F path P) where
   not-before t h i =
       let q = place 0 (take t path) (getD path t 0) i in
       let l : q .at < t = omega (arith, q .inRange, length-take-le t path (omega arith)) in
-      walk .differ (q .at) t l h (sym (q .there ∙ getD-take t path (q .at) 0 l))
+      is .differ (q .at) t l h (sym (q .there ∙ getD-take t path (q .at) 0 l))
 
   not-among : (t : ℕ) → t < length path → among (take t path) (getD path t 0) ≡ false
   not-among t h = refuted (among (take t path) (getD path t 0)) (λ e. not-before t h (among-facts (take t path) (getD path t 0) e))
@@ -165,7 +166,7 @@ module _ {F : Family} {path P : List ℕ} (walk : Walkable F path P) where
   -- entry t + 1 is entry t, or one more
   pub entry-next : (t : ℕ) → t < length path → entry F path (suc t) ≡ entry F path t + bit (not (stops t))
   unfolding entry
-  entry-next t h = entry-step (family-laminar (walk .well)) path t h (walk .some t h) (walk .most t h) (not-among t h)
+  entry-next t h = entry-step (family-laminar well) path t h (is .some t h) (is .most t h) (not-among t h)
 
   pub mark-is : (t : ℕ) → t < length path → markAt F path (t + 1) ≡ bit (not (stops t))
   unfolding markAt
@@ -181,7 +182,7 @@ module _ {F : Family} {path P : List ℕ} (walk : Walkable F path P) where
 
   pub entry-start : entry F path 0 ≡ 0
   unfolding entry greedy
-  entry-start = sym (path-bound (family-laminar (walk .well)) []) ∙ card-none (F .peptides) none (λ p l u. refl)
+  entry-start = sym (path-bound (family-laminar well) []) ∙ card-none (F .peptides) none (λ p l u. refl)
 
   -- One step: the mark and the entry are right, and the counts are those of the set after it.
   pub record Next (t : ℕ) (D : List ℕ) (marked : ℕ) : Type 0 where
@@ -192,7 +193,7 @@ module _ {F : Family} {path P : List ℕ} (walk : Walkable F path P) where
 
   module _ (t : ℕ) (h : t < length path) (C D : List ℕ) (marked : ℕ) (counts : Counts F (markedSet t) C) (s : Stepped F C (getD path t 0) D marked) where
     marked-bit : marked ≡ bit (not (stops t))
-    marked-bit = s .marked ∙ rw (crowded-blocked (walk .well) (markedSet t) C counts (getD path t 0) (walk .some t h) (walk .most t h)) (flip (stops t))
+    marked-bit = s .marked ∙ rw (crowded-blocked well (markedSet t) C counts (getD path t 0) (is .some t h) (is .most t h)) (flip (stops t))
       where
         flip : (b : Bool) → cond b 0 1 ≡ bit (not b)
         flip true = refl
@@ -203,10 +204,10 @@ module _ {F : Family} {path P : List ℕ} (walk : Walkable F path P) where
         ⊎-elim
         (λ e.
         rw (marked-stays t h e)
-        (counts-stay (walk .well) (markedSet t) C counts (getD path t 0) (walk .some t h) (walk .most t h) D (subst (Stepped F C (getD path t 0) D) (marked-bit ∙ rw e) s)))
+        (counts-stay well (markedSet t) C counts (getD path t 0) (is .some t h) (is .most t h) D (subst (Stepped F C (getD path t 0) D) (marked-bit ∙ rw e) s)))
         (λ e.
         rw (marked-grows t h e)
-        (counts-more (walk .well) (markedSet t) C counts (getD path t 0) (walk .some t h) (walk .most t h) D (not-marked t h) (subst (Stepped F C (getD path t 0) D) (marked-bit ∙ rw e) s)))
+        (counts-more well (markedSet t) C counts (getD path t 0) (is .some t h) (is .most t h) D (not-marked t h) (subst (Stepped F C (getD path t 0) D) (marked-bit ∙ rw e) s)))
         (test (stops t))
 
     pub next : Next t D marked

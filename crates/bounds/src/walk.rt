@@ -114,7 +114,13 @@ fn next_entry(entry: u16, mark: u8) -> u16
 }
 
 // Writes the curve and its marks.
-pub(crate) fn write_curve(file: &[u8], parents: &[u16], path: &[u16], values: &mut [u16], marks: &mut [u8])
+pub(crate) fn write_curve(
+    file: &[u8],
+    parents: &[u16],
+    path: &[u16],
+    values: &mut [u16],
+    marks: &mut [u8],
+)
     requires { ⌜ Walkable (familyOf (now file)) (now path) (now parents) ⌝ }
     requires { ⌜ length (now path) + 1 ≤ length (now values) ⌝ }
     requires { ⌜ length (now path) ≤ length (now marks) ⌝ }

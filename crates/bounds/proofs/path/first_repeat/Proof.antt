@@ -70,11 +70,11 @@ loop-again c =
       simp length-set (inv .1),
       seen-more path (c .before .before .before .loop .seen) i (getD path i 0) (inv .1) (inv .2) refl (fits (c .before .before)),
       λ k l.
-      let u : k ≤ i = omega arith in
-      ⊎-elim
-      (λ e. rw e (repeated-seen path i ∙ bit-none _ (sym (inv .2 (getD path i 0) (fits (c .before .before))) ∙ c .if1 .left)))
-      (λ d. inv .3 k d)
-      (eq-or-lt-of-le u),
+          let u : k ≤ i = omega arith in
+          ⊎-elim
+          (λ e. rw e (repeated-seen path i ∙ bit-none _ (sym (inv .2 (getD path i 0) (fits (c .before .before))) ∙ c .if1 .left)))
+          (λ d. inv .3 k d)
+          (eq-or-lt-of-le u),
     )
 
 returns-2 : tie.Need-returns-2 Inv-loop μ-loop

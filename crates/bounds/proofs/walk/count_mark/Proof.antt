@@ -69,11 +69,11 @@ loop-again c =
       simp length-set (inv .1),
       λ i l. getD-set-other (c .before .before .before .loop .counts) (c .before .before .before .loop .number - 1) i _ 0 (λ e. omega arith) ∙ inv .2 i (omega arith),
       λ F leaf n h.
-      let chain = inv .3 F leaf n h .0 in
-      let p = n .known (c .before .before .before .loop .number - 1) (omega (arith, chain .0)) in (
-        chain-next F (n .ordered) (n .nested) leaf _ chain some _ p,
-        counted-steps F (n .ordered) (n .nested) leaf _ chain some _ (c .before .before .before .loop .counts) (omega (arith, inv .0, c .before .before .before .before .pre .0)) _ p (inv .3 F leaf n h .1),
-      ),
+          let chain = inv .3 F leaf n h .0 in
+          let p = n .known (c .before .before .before .loop .number - 1) (omega (arith, chain .0)) in (
+            chain-next F (n .ordered) (n .nested) leaf _ chain some _ p,
+            counted-steps F (n .ordered) (n .nested) leaf _ chain some _ (c .before .before .before .loop .counts) (omega (arith, inv .0, c .before .before .before .before .pre .0)) _ p (inv .3 F leaf n h .1),
+          ),
     )
 
 same-length : tie.Need-same-length Inv-loop μ-loop

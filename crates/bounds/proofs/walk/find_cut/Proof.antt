@@ -32,8 +32,8 @@ abbrev μ-loop : tie.MeasureT-loop
 here : (c : tie.In-loop Inv-loop μ-loop) → c .before .loop .t < length (now (c .before .before .before .before .before .args .path))
 here c = omega (arith, c .loop-test .taken, c .before .loop .inv .1)
 
-stepped : (c : tie.After-mark-next Inv-loop μ-loop) → Next (c .before .before .before .before .before .before .before .before .pre) (c .before .before .before .before .loop .t) (c .mark-next .last .1 .1 .0) (c .mark-next .result)
-stepped c = next (c .before .before .before .before .before .before .before .before .pre) (c .before .before .before .before .loop .t) (here (c .before .before .before)) (c .before .before .before .before .loop .counts) _ _ (c .before .before .before .before .loop .inv .6) (c .mark-next .ensures)
+stepped : (c : tie.After-mark-next Inv-loop μ-loop) → Next (c .before .before .before .before .before .before .before .before .pre .well) (c .before .before .before .before .before .before .before .before .pre .different) (c .before .before .before .before .loop .t) (c .mark-next .last .1 .1 .0) (c .mark-next .result)
+stepped c = next (c .before .before .before .before .before .before .before .before .pre .well) (c .before .before .before .before .before .before .before .before .pre .different) (c .before .before .before .before .loop .t) (here (c .before .before .before)) (c .before .before .before .before .loop .counts) _ _ (c .before .before .before .before .loop .inv .6) (c .mark-next .ensures)
 
 cast-places : tie.Need-cast-places Inv-loop μ-loop
 cast-places c = omega (arith, c .before .before .before .pre .short, c .before .before .before .pre .well .peptides-most)
@@ -41,14 +41,14 @@ cast-places c = omega (arith, c .before .before .before .pre .short, c .before .
 loop-holds : tie.Need-loop-holds Inv-loop μ-loop
 loop-holds c =
     let walk = c .before .before .before .pre in
-    let start = entry-start walk in (
+    let start = entry-start (walk .well) (walk .different) in (
       omega arith,
       refl,
       search needs,
       omega arith,
       sym start,
       sym (largest-none _),
-      counts-start walk (replicate 8191 0) (λ k l. getD-replicate 8191 k 0 0 (omega (arith, walk .nested .few))),
+      counts-start (walk .well) (walk .different) (replicate 8191 0) (λ k l. getD-replicate 8191 k 0 0 (omega (arith, walk .nested .few))),
     )
 
 slice-aggregate-mark-next : tie.Need-slice-aggregate-mark-next Inv-loop μ-loop

@@ -32,8 +32,8 @@ Inv-loop file parents path values₀ marks₀ counts₀ entry₀ t₀ values mar
 abbrev μ-loop : tie.MeasureT-loop
 μ-loop file parents path values₀ marks₀ counts₀ entry₀ t₀ values marks counts e t = length path - t
 
-stepped : (c : tie.After-mark-next Inv-loop μ-loop) → Next (c .before .before .before .before .before .before .before .before .before .before .pre .0) (c .before .before .before .before .loop .t) (c .mark-next .last .1 .1 .0) (c .mark-next .result)
-stepped c = next (c .before .before .before .before .before .before .before .before .before .before .pre .0) (c .before .before .before .before .loop .t) (c .before .before .before .loop-test .taken) (c .before .before .before .before .loop .counts) _ _ (c .before .before .before .before .loop .inv .8) (c .mark-next .ensures)
+stepped : (c : tie.After-mark-next Inv-loop μ-loop) → Next (c .before .before .before .before .before .before .before .before .before .before .pre .0 .well) (c .before .before .before .before .before .before .before .before .before .before .pre .0 .different) (c .before .before .before .before .loop .t) (c .mark-next .last .1 .1 .0) (c .mark-next .result)
+stepped c = next (c .before .before .before .before .before .before .before .before .before .before .pre .0 .well) (c .before .before .before .before .before .before .before .before .before .before .pre .0 .different) (c .before .before .before .before .loop .t) (c .before .before .before .loop-test .taken) (c .before .before .before .before .loop .counts) _ _ (c .before .before .before .before .loop .inv .8) (c .mark-next .ensures)
 
 slice-write-values : tie.Need-slice-write-values Inv-loop μ-loop
 slice-write-values c = omega (arith, c .before .before .before .before .before .pre .1 .0)
@@ -43,7 +43,7 @@ loop-holds c =
     let walk = c .before .before .before .before .before .pre .0 in
     let F = familyOf (now (c .before .before .before .before .before .args .file)) in
     let path = now (c .before .before .before .before .before .args .path) in
-    let start = entry-start walk in (
+    let start = entry-start (walk .well) (walk .different) in (
       omega arith,
       refl,
       refl,
@@ -52,7 +52,7 @@ loop-holds c =
       sym start,
       write-first (entry F path) (now (c .before .before .before .before .before .args .values)) 0 (omega (arith, c .before .before .before .before .before .pre .1 .0)) (sym start),
       write-none (λ i. markAt F path (i + 1)) (now (c .before .before .before .before .before .args .marks)),
-      counts-start walk (replicate 8191 0) (λ k l. getD-replicate 8191 k 0 0 (omega (arith, walk .nested .few))),
+      counts-start (walk .well) (walk .different) (replicate 8191 0) (λ k l. getD-replicate 8191 k 0 0 (omega (arith, walk .nested .few))),
     )
 
 slice-aggregate-mark-next : tie.Need-slice-aggregate-mark-next Inv-loop μ-loop
