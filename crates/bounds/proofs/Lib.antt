@@ -9,3 +9,8 @@ pub mod Formula
 pub mod Paths
 pub mod Taken
 pub mod Family
+pub mod Holding
+pub mod Walking
+pub mod PathLaws
+pub mod Answering
+pub mod CurveTheorem

@@ -4,3 +4,5 @@ pub mod Bound
 pub mod Selections
 pub mod Curves
 pub mod Calls
+pub mod Paths
+pub mod Walks
