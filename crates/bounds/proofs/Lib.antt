@@ -9,3 +9,4 @@ pub mod Formula
 pub mod Paths
 pub mod Taken
 pub mod Family
+pub mod Selecting

@@ -4,3 +4,4 @@ pub mod Bound
 pub mod Selections
 pub mod Curves
 pub mod Calls
+pub mod Rows

@@ -1,4 +1,6 @@
 // The bound of a selection with its taken regions, the curve along a path with its marks, and the cut.
+mod rows;
+mod selection;
 
 // A bound, or the number of the first cause that holds.
 pub enum Bounded {
