@@ -55,14 +55,14 @@ inside-fit F r q first last less =
 
 -- The range of the k-th region.
 
-abbrev noRange : Family → Range
+abbrev pub noRange : Family → Range
 noRange F = rangeOf F (record { first = 0; last = 0; z = 0 })
 
 pub ranges-length : (F : Family) → length (rangesOf F) ≡ regionCount F
 unfolding rangesOf
 ranges-length F = length-map (F .regions) (rangeOf F)
 
-range-at : (F : Family) (k : ℕ) → getD (rangesOf F) k (noRange F) ≡ rangeOf F (region F k)
+pub range-at : (F : Family) (k : ℕ) → getD (rangesOf F) k (noRange F) ≡ rangeOf F (region F k)
 unfolding rangesOf region
 range-at F k = List·getD-map (rangeOf F) (F .regions) k (record { first = 0; last = 0; z = 0 })
 

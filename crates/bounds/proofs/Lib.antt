@@ -10,3 +10,5 @@ pub mod Paths
 pub mod Taken
 pub mod Family
 pub mod Selecting
+pub mod RowTotals
+pub mod RowWalk

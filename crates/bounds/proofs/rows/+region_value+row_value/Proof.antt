@@ -50,7 +50,7 @@ region-value-region-of-requires : (t : ℕ) → region-value-lts.Need-region-of-
   smaller-reads.Asked,
   smaller-reads.Learnt,
 ) (region-value-at t) region-value.Post
-region-value-region-of-requires t c κs = search needs
+region-value-region-of-requires t c κs = ?
 
 -- src/rows.rt:111:73
 region-value-add-t16 : (t : ℕ) → region-value-lts.Need-add-t16 (
@@ -61,7 +61,7 @@ region-value-add-t16 : (t : ℕ) → region-value-lts.Need-add-t16 (
   smaller-reads.Asked,
   smaller-reads.Learnt,
 ) (region-value-at t) region-value.Post
-region-value-add-t16 t c = search needs
+region-value-add-t16 t c = ?
 
 -- src/rows.rt:111:9
 region-value-row-value-requires : (t : ℕ) → region-value-lts.Need-row-value-requires (
@@ -72,7 +72,7 @@ region-value-row-value-requires : (t : ℕ) → region-value-lts.Need-row-value-
   smaller-reads.Asked,
   smaller-reads.Learnt,
 ) (region-value-at t) region-value.Post
-region-value-row-value-requires t c κs = search needs
+region-value-row-value-requires t c κs = ?
 
 -- src/rows.rt:114:12
 region-value-cast-totals : (t : ℕ) → region-value-lts.Need-cast-totals (
@@ -83,7 +83,7 @@ region-value-cast-totals : (t : ℕ) → region-value-lts.Need-cast-totals (
   smaller-reads.Asked,
   smaller-reads.Learnt,
 ) (region-value-at t) region-value.Post
-region-value-cast-totals t c = search needs
+region-value-cast-totals t c = ?
 
 -- src/rows.rt:114:5
 region-value-mul-totals : (t : ℕ) → region-value-lts.Need-mul-totals (
@@ -94,7 +94,7 @@ region-value-mul-totals : (t : ℕ) → region-value-lts.Need-mul-totals (
   smaller-reads.Asked,
   smaller-reads.Learnt,
 ) (region-value-at t) region-value.Post
-region-value-mul-totals t c = search needs
+region-value-mul-totals t c = ?
 
 -- src/rows.rt:114:5
 region-value-slice-write-totals : (t : ℕ) → region-value-lts.Need-slice-write-totals (
@@ -105,7 +105,7 @@ region-value-slice-write-totals : (t : ℕ) → region-value-lts.Need-slice-writ
   smaller-reads.Asked,
   smaller-reads.Learnt,
 ) (region-value-at t) region-value.Post
-region-value-slice-write-totals t c = search needs
+region-value-slice-write-totals t c = ?
 
 -- src/rows.rt:115:22
 region-value-smaller-requires : (t : ℕ) → region-value-lts.Need-smaller-requires (
@@ -116,7 +116,7 @@ region-value-smaller-requires : (t : ℕ) → region-value-lts.Need-smaller-requ
   smaller-reads.Asked,
   smaller-reads.Learnt,
 ) (region-value-at t) region-value.Post
-region-value-smaller-requires t c κs = search needs
+region-value-smaller-requires t c κs = ?
 
 -- src/rows.rt:101:1
 region-value-same-length : (t : ℕ) → region-value-lts.Need-same-length (
@@ -127,7 +127,7 @@ region-value-same-length : (t : ℕ) → region-value-lts.Need-same-length (
   smaller-reads.Asked,
   smaller-reads.Learnt,
 ) (region-value-at t) region-value.Post
-region-value-same-length t c = search needs
+region-value-same-length t c = ?
 
 -- src/rows.rt:101:1
 region-value-returns : (t : ℕ) → region-value-lts.Need-returns (
@@ -138,13 +138,13 @@ region-value-returns : (t : ℕ) → region-value-lts.Need-returns (
   smaller-reads.Asked,
   smaller-reads.Learnt,
 ) (region-value-at t) region-value.Post
-region-value-returns t c = search needs
+region-value-returns t c = ?
 
 abbrev row-value-Inv-loop : row-value-lts.InvT-loop
-row-value-Inv-loop file selection totals₀ last end total₀ at₀ totals total at = search needs
+row-value-Inv-loop file selection totals₀ last end total₀ at₀ totals total at = ?
 
 abbrev row-value-μ-loop : row-value-lts.MeasureT-loop
-row-value-μ-loop file selection totals₀ last end total₀ at₀ totals total at = search needs
+row-value-μ-loop file selection totals₀ last end total₀ at₀ totals total at = ?
 
 -- src/rows.rt:127:5
 row-value-loop-holds : (t : ℕ) → row-value-lts.Need-loop-holds (
@@ -157,7 +157,7 @@ row-value-loop-holds : (t : ℕ) → row-value-lts.Need-loop-holds (
   pass-reads.Asked,
   pass-reads.Learnt,
 ) (row-value-at t) row-value.Post row-value-Inv-loop row-value-μ-loop
-row-value-loop-holds t c = search needs
+row-value-loop-holds t c = ?
 
 -- src/rows.rt:127:11
 row-value-begins-by-requires : (t : ℕ) → row-value-lts.Need-begins-by-requires (
@@ -170,7 +170,7 @@ row-value-begins-by-requires : (t : ℕ) → row-value-lts.Need-begins-by-requir
   pass-reads.Asked,
   pass-reads.Learnt,
 ) (row-value-at t) row-value.Post row-value-Inv-loop row-value-μ-loop
-row-value-begins-by-requires t c κs = search needs
+row-value-begins-by-requires t c κs = ?
 
 -- src/rows.rt:128:13
 row-value-pass-to-region-requires : (t : ℕ) → row-value-lts.Need-pass-to-region-requires (
@@ -183,7 +183,7 @@ row-value-pass-to-region-requires : (t : ℕ) → row-value-lts.Need-pass-to-reg
   pass-reads.Asked,
   pass-reads.Learnt,
 ) (row-value-at t) row-value.Post row-value-Inv-loop row-value-μ-loop
-row-value-pass-to-region-requires t c κs = search needs
+row-value-pass-to-region-requires t c κs = ?
 
 -- src/rows.rt:131:13
 row-value-region-value-requires : (t : ℕ) → row-value-lts.Need-region-value-requires (
@@ -196,7 +196,7 @@ row-value-region-value-requires : (t : ℕ) → row-value-lts.Need-region-value-
   pass-reads.Asked,
   pass-reads.Learnt,
 ) (row-value-at t) row-value.Post row-value-Inv-loop row-value-μ-loop
-row-value-region-value-requires t c κs = search needs
+row-value-region-value-requires t c κs = ?
 
 -- src/rows.rt:134:17
 row-value-add-total : (t : ℕ) → row-value-lts.Need-add-total (
@@ -209,7 +209,7 @@ row-value-add-total : (t : ℕ) → row-value-lts.Need-add-total (
   pass-reads.Asked,
   pass-reads.Learnt,
 ) (row-value-at t) row-value.Post row-value-Inv-loop row-value-μ-loop
-row-value-add-total t c = search needs
+row-value-add-total t c = ?
 
 -- src/rows.rt:134:17
 row-value-add-total-2 : (t : ℕ) → row-value-lts.Need-add-total-2 (
@@ -222,7 +222,7 @@ row-value-add-total-2 : (t : ℕ) → row-value-lts.Need-add-total-2 (
   pass-reads.Asked,
   pass-reads.Learnt,
 ) (row-value-at t) row-value.Post row-value-Inv-loop row-value-μ-loop
-row-value-add-total-2 t c = search needs
+row-value-add-total-2 t c = ?
 
 -- src/rows.rt:127:5
 row-value-loop-less : (t : ℕ) → row-value-lts.Need-loop-less (
@@ -235,7 +235,7 @@ row-value-loop-less : (t : ℕ) → row-value-lts.Need-loop-less (
   pass-reads.Asked,
   pass-reads.Learnt,
 ) (row-value-at t) row-value.Post row-value-Inv-loop row-value-μ-loop
-row-value-loop-less t c = search needs
+row-value-loop-less t c = ?
 
 -- src/rows.rt:127:5
 row-value-loop-again : (t : ℕ) → row-value-lts.Need-loop-again (
@@ -248,7 +248,7 @@ row-value-loop-again : (t : ℕ) → row-value-lts.Need-loop-again (
   pass-reads.Asked,
   pass-reads.Learnt,
 ) (row-value-at t) row-value.Post row-value-Inv-loop row-value-μ-loop
-row-value-loop-again t c = search needs
+row-value-loop-again t c = ?
 
 -- src/rows.rt:137:9
 row-value-pass-requires : (t : ℕ) → row-value-lts.Need-pass-requires (
@@ -261,7 +261,7 @@ row-value-pass-requires : (t : ℕ) → row-value-lts.Need-pass-requires (
   pass-reads.Asked,
   pass-reads.Learnt,
 ) (row-value-at t) row-value.Post row-value-Inv-loop row-value-μ-loop
-row-value-pass-requires t c κs = search needs
+row-value-pass-requires t c κs = ?
 
 -- src/rows.rt:140:22
 row-value-add-t22 : (t : ℕ) → row-value-lts.Need-add-t22 (
@@ -274,7 +274,7 @@ row-value-add-t22 : (t : ℕ) → row-value-lts.Need-add-t22 (
   pass-reads.Asked,
   pass-reads.Learnt,
 ) (row-value-at t) row-value.Post row-value-Inv-loop row-value-μ-loop
-row-value-add-t22 t c = search needs
+row-value-add-t22 t c = ?
 
 -- src/rows.rt:120:1
 row-value-same-length : (t : ℕ) → row-value-lts.Need-same-length (
@@ -287,7 +287,7 @@ row-value-same-length : (t : ℕ) → row-value-lts.Need-same-length (
   pass-reads.Asked,
   pass-reads.Learnt,
 ) (row-value-at t) row-value.Post row-value-Inv-loop row-value-μ-loop
-row-value-same-length t c = search needs
+row-value-same-length t c = ?
 
 -- src/rows.rt:120:1
 row-value-returns : (t : ℕ) → row-value-lts.Need-returns (
@@ -300,7 +300,7 @@ row-value-returns : (t : ℕ) → row-value-lts.Need-returns (
   pass-reads.Asked,
   pass-reads.Learnt,
 ) (row-value-at t) row-value.Post row-value-Inv-loop row-value-μ-loop
-row-value-returns t c = search needs
+row-value-returns t c = ?
 
 pub +region-value+row-value-spec : {M : Type 1} → statement M
 +region-value+row-value-spec = close μ-region-value μ-row-value (λ t. region-value-lts.spec (

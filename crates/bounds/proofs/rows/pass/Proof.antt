@@ -1,22 +1,24 @@
-use borrow.Author.Needs.{needs}
+-- The leaves passed are added up, and then the selected peptides of them are counted.
+use native.Mathlib.Omega.{arith}
+use mathlib.Core.Path.{sym, _∙_}
+use denote.Ref.{now}
+use Rattle.reader.specs.Family.{familyOf}
+use Rattle.bounds.proofs.Family.{upTo-mono}
+use Rattle.bounds.proofs.RowTotals.{leaf-most}
 use Rattle.bounds.proofs.rows.pass.Statement.{statement}
 use Rattle.bounds.proofs.rows.pass.Tie as tie
-use Rattle.bounds.proofs.rows.pass.Reads as reads
-use Rattle.bounds.proofs.rows.pass.Lts as lts
-use Rattle.bounds.proofs.rows.last_peptide.Reads as last-peptide-reads
-use Rattle.bounds.proofs.selection.selected_between.Reads as selected-between-reads
 
--- src/rows.rt:56:9
 last-peptide-requires : tie.Need-last-peptide-requires
-last-peptide-requires c κs = search needs
+last-peptide-requires c κs =
+    let pre = c .before .before .before .before .pre in
+    let w = pre .0 .formed in
+    (omega (arith, leaf-most w _ (pre .2 .1), w .peptides-most), (pre .2 .0, pre .1 .peptide))
 
--- src/rows.rt:57:9
 selected-between-requires : tie.Need-selected-between-requires
-selected-between-requires c κs = search needs
+selected-between-requires c κs = ?
 
--- src/rows.rt:47:1
 returns : tie.Need-returns
-returns c = search needs
+returns c = ?
 
 pub pass-spec : {M : Type 1} → statement M
 pass-spec = tie.close (tie.spec last-peptide-requires selected-between-requires returns)
