@@ -1,10 +1,11 @@
 -- The walk along a row: where the cursor stands, what is counted so far and what is stored, from the start of the row to its end.
 use Prim.Native.Nat.{ℕ, zero, suc, _+_, _-_, _≤_, _<_, min}
-use mathlib.Core.Bool.{true, false}
+use mathlib.Core.Bool.{Bool, true, false}
 use mathlib.Core.List.{List}
 use mathlib.Core.Logic.{_⊎_, inl, inr, ⊎-elim}
-use mathlib.Core.Path.{_≡_, refl, sym, ap, _∙_}
+use mathlib.Core.Path.{_≡_, refl, sym, ap, ap₂, _∙_}
 use native.Mathlib.Nat.{eq-or-lt-of-le}
+use native.Mathlib.Numerals.{add-one}
 use native.Mathlib.Omega.{arith}
 use lib.Dec.{leb, ltb}
 use lib.ListN.{length, getD, set}
@@ -13,14 +14,15 @@ use borrow.Author.Tests.{leb-true, leb-false, ltb-true, ltb-false}
 use Rattle.reader.specs.Family.{Family, leaves, regionCount, region, peptidesUpTo}
 use Rattle.reader.specs.WellFormed.{WellFormed}
 use Rattle.reader.proofs.Bools.{and-l, and-r, and-fails}
-use Rattle.bounds.specs.Ranges.{Range, card, count, rangesOf}
+use Rattle.bounds.specs.Ranges.{Range, card, count, rangeOf, rangesOf}
 use Rattle.bounds.specs.Bound.{total, value}
 use Rattle.bounds.specs.Selections.{selected}
 use Rattle.bounds.specs.declared.rows.Cursor.{Cursor}
 use Rattle.bounds.specs.declared.rows.Counted.{Counted}
 use Rattle.bounds.specs.Rows.{rangeAt, rowRange, leafBefore, lastLeaf, beginsBy, Ready, OnLeaf, Passed, Walked, Stored, RegionWalked, RowWalked, RegionReady, RowReady}
 use Rattle.bounds.proofs.Members.{le-or-lt}
-use Rattle.bounds.proofs.RowTotals.{isPart, partSum, part-here, part-deeper, part-after, part-sum-none, part-sum-one, part-sum-start, region-counted, row-total}
+use Rattle.bounds.proofs.Selecting.{card-most}
+use Rattle.bounds.proofs.RowTotals.{isPart, partSum, part-here, part-deeper, part-after, part-sum-none, part-sum-one, part-sum-start, leaf-most, region-counted, row-total}
 
 -- Stored totals.
 
@@ -45,7 +47,14 @@ module _ {F : Family} {selection : List ℕ} where
         others = λ i a. getD-set-other new k i v 0 (λ x. ⊎-elim (λ h. omega arith) (λ h. omega arith) a) ∙ s .others i (⊎-elim (λ h. inl (omega arith)) (λ h. inr h) a);
       }
 
+range-z : (F : Family) (k : ℕ) → rangeAt F k .z ≡ region F k .z
+unfolding rangeAt rangeOf
+range-z F k = refl
+
 -- Where the next region begins.
+
+pub passed-to : {F : Family} {selection : List ℕ} {c : Cursor} {r : Counted} {k l : ℕ} → k ≡ l → Passed F selection c k r → Passed F selection c l r
+passed-to e p = rw e at p
 
 begins-facts : (F : Family) (k last : ℕ) → beginsBy F k last ≡ true → (k < regionCount F) × (region F k .first ≤ last)
 unfolding beginsBy
@@ -59,6 +68,10 @@ unfolding beginsBy
 begins-not F k last e l =
     ⊎-elim (λ f. absurd (omega (arith, ltb-false k (regionCount F) f))) (λ f. leb-false (region F k .first) last f)
     (and-fails (ltb k (regionCount F)) (leb (region F k .first) last) e)
+
+-- what the test in the code says, once its answer is known
+pub begun : (F : Family) (k : ℕ) {last l : ℕ} {b x : Bool} → b ≡ beginsBy F k last → last ≡ l → b ≡ x → beginsBy F k l ≡ x
+begun F k e q h = rw (← q) (sym e ∙ h)
 
 -- The walk along the row that begins at region b, after `start` peptides, has come to the cursor c with the count n.
 -- What is counted is the values of the parts passed, and all that is selected up to the cursor but in none of them.
@@ -75,7 +88,7 @@ pub record Along (F : Family) (selection : List ℕ) (b start : ℕ) (c : Cursor
   pub few : n + card start (selected selection) ≤ card (c .peptide .0) (selected selection)
 
 module _ {F : Family} (w : WellFormed F) where
-  leaf-before : (b : ℕ) → b ≤ regionCount F → (leafBefore F b ≤ lastLeaf F b) × (lastLeaf F b ≤ leaves F)
+  pub leaf-before : (b : ℕ) → b ≤ regionCount F → (leafBefore F b ≤ lastLeaf F b) × (lastLeaf F b ≤ leaves F)
   unfolding leafBefore lastLeaf
   leaf-before zero h = (omega arith, omega arith)
   leaf-before (suc i) h = (omega (arith, w .ordered .first-last i h), w .ordered .last-leaf i h)
@@ -123,6 +136,17 @@ module _ {F : Family} {selection : List ℕ} (w : WellFormed F) where
           leaf = q .leaf ∙ ap (λ (k : ℕ). region F k .first - 1) (sym (q .region));
           peptide = q .peptide ∙ ap (peptidesUpTo F) (sym (q .leaf));
         }
+
+    -- and what is counted up to there is no more than the peptides,
+    pub pass-fits : (p : Counted) (l : ℕ) → l ≤ leaves F → Passed F selection c l p → n + p .count ≤ 4096
+    pass-fits p l h passed =
+        let S = selected selection in
+        omega (arith, a .few, passed .counted, card-most (p .at .peptide .0) S, passed .peptide, leaf-most w l h, w .peptides-most)
+
+    pub row-fits : n ≤ 4096
+    row-fits =
+        let S = selected selection in
+        omega (arith, a .few, card-most (c .peptide .0) S, a .onLeaf, leaf-most w (c .leaf .0) (a .onLeaf .leaf), w .peptides-most)
 
     -- goes on after it,
     pub row-steps : (p q : Counted) (old new : List ℕ) → beginsBy F (c .region) (lastLeaf F b) ≡ true
@@ -195,3 +219,58 @@ module _ {F : Family} {selection : List ℕ} (w : WellFormed F) where
             ahead = λ u. rw (passed .region) (begins-not F j (lastLeaf F b) e (omega (arith, passed .region)));
           },
         )
+
+  -- All that the row's call promises, with the totals stored on the way.
+  pub row-finishes : (s c : Cursor) (n : ℕ) (r : Counted) (old new : List ℕ) (last v : ℕ) → Along F selection (s .region) (s .peptide .0) c n
+      → RowReady F selection old s last → beginsBy F (c .region) last ≡ false → Passed F selection c last r → Stored F selection old new (s .region) (c .region)
+      → v ≡ n + r .count → RowWalked F selection old new s (record { count = v; at = r .at })
+  row-finishes s c n r old new last v a ready e passed stored ev =
+      let b = s .region in
+      let from = ready .peptide ∙ ap (peptidesUpTo F) (ready .leaf) in
+      let ends = row-ends b (s .peptide .0) c n a r (ready .here) from (rw (ready .ends) at e) (passed-to (ready .ends) passed) in
+      record {
+        total = ev ∙ ends .0;
+        few = omega (arith, ends .1, ev);
+        leaf = passed .leaf ∙ ready .ends;
+        peptide = passed .peptide ∙ ap (peptidesUpTo F) (sym (passed .leaf));
+        walked = ends .2;
+        stored = rw (passed .region) stored;
+      }
+
+-- The region and its row.
+
+-- the cursor behind the beginning of a region, before the first region that may be inside it
+abbrev pub entered : Cursor → Cursor
+entered c = record { region = c .region + 1; leaf = c .leaf; peptide = c .peptide }
+
+module _ {F : Family} {selection : List ℕ} where
+  pub region-row : (c : Cursor) (totals : List ℕ) (last : ℕ) → RegionReady F selection totals c → last ≡ region F (c .region) .last
+      → RowReady F selection totals (entered c) last
+  unfolding leafBefore lastLeaf
+  region-row c totals last r e =
+      record {
+        ready = r .ready;
+        room = r .room;
+        here = omega (arith, r .here);
+        leaf = rw add-one (r .leaf);
+        peptide = r .peptide;
+        ends = rw add-one e;
+      }
+
+  pub region-finishes : (c : Cursor) (old new : List ℕ) (z v : ℕ) (r : Counted) → RegionReady F selection old c → length new ≡ length old
+      → z ≡ region F (c .region) .z → v ≡ min z (r .count) → RowWalked F selection old new (entered c) r
+      → RegionWalked F selection old (set new (c .region) (r .count)) c (record { count = v; at = r .at })
+  unfolding value rowRange lastLeaf
+  region-finishes c old new z v r ready same ez ev row =
+      let own : r .count ≡ total (F .peptides) (rangesOf F) (selected selection) (rangeAt F (c .region)) = rw add-one at (row .total) in
+      let walked : Walked F (suc (c .region)) (region F (c .region) .last) (r .at .region) = rw add-one at (row .walked) in
+      let stored : Stored F selection old new (suc (c .region)) (r .at .region) = rw add-one at (row .stored) in
+      record {
+        value = ev ∙ ap₂ min (ez ∙ sym (range-z F (c .region))) own;
+        few = omega (arith, row .few, ev);
+        leaf = row .leaf ∙ ap (lastLeaf F) (add-one (c .region));
+        peptide = row .peptide;
+        later = walked .forward;
+        walked = walked;
+        stored = stored-own old new (c .region) (r .at .region) (r .count) (walked .forward) (omega (arith, ready .here, ready .room)) stored own;
+      }

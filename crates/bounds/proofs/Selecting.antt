@@ -1,5 +1,5 @@
 -- The bytes of a selection, and how many of its peptides are passed.
-use Prim.Native.Nat.{ℕ, suc, _+_, _≤_, _<_}
+use Prim.Native.Nat.{ℕ, zero, suc, _+_, _≤_, _<_}
 use native.Mathlib.Numerals.{add-one}
 use native.Mathlib.Omega.{arith}
 use mathlib.Core.Bool.{Bool, true, false, not, _||_}
@@ -56,3 +56,9 @@ card-next n X = rw add-one
 pub bit-few : (b : Bool) → bit b ≤ 1
 bit-few true = omega arith
 bit-few false = omega arith
+
+-- there are no more selected peptides than peptides
+pub card-most : (n : ℕ) (X : Peptides) → card n X ≤ n
+unfolding card
+card-most zero X = omega arith
+card-most (suc n) X = omega (arith, card-most n X, bit-few (X (suc n)))

@@ -1,5 +1,16 @@
+-- The cycle of calls {region_value, row_value}. A region's call asks for the row after it, and a row's for regions at or after
+-- its own: with n regions left, a region's measure is 2n and a row's 2n + 1.
+use Prim.Native.Nat.{ℕ, _<_, _+_, _-_, _*_}
+use native.Mathlib.Omega.{arith}
+use mathlib.Core.Path.{_≡_, refl, _∙_}
+use lib.ListN.{length, length-set}
+use denote.Ref.{now}
+use Rattle.reader.specs.Family.{familyOf, regionCount}
+use Rattle.reader.proofs.Parsed.{held-last, held-z}
+use Rattle.reader.proofs.family.region_of.Reads as region-of-reads
+use Rattle.bounds.specs.Rows.{Stored}
+use Rattle.bounds.proofs.RowWalk.{Along, begun, leaf-before, pass-fits, row-fits, stored-none, stored-more, row-starts, row-meets, region-meets, row-steps, row-finishes, region-row, region-finishes}
 use borrow.Author.Needs.{needs}
-use Prim.Native.Nat.{ℕ, _<_}
 use borrow.Fn.Kinds.{In}
 use borrow.Fn.PlainCycle.{Measures, is, falls, and}
 use Rattle.bounds.proofs.rows.region_value.Reads as region-value
@@ -12,15 +23,14 @@ use Rattle.bounds.proofs.rows.begins_by.Reads as begins-by-reads
 use Rattle.bounds.proofs.rows.pass.Reads as pass-reads
 use Rattle.bounds.proofs.rows.pass_to_region.Reads as pass-to-region-reads
 use Rattle.bounds.proofs.rows.smaller.Reads as smaller-reads
-use Rattle.reader.proofs.family.region_of.Reads as region-of-reads
 use Rattle.bounds.proofs.rows.+region_value+row_value.{statement}
 use Rattle.bounds.proofs.rows.+region_value+row_value.Tie.{close}
 
 abbrev μ-region-value : Measures 3 region-value-kinds.ps ℕ
-μ-region-value κs a = ?
+μ-region-value κs a = 2 * (regionCount (familyOf (now (a .0))) - a .1 .1 .1 .0 .region)
 
 abbrev μ-row-value : Measures 3 row-value-kinds.ps ℕ
-μ-row-value κs a = ?
+μ-row-value κs a = 2 * (regionCount (familyOf (now (a .0))) - a .1 .1 .1 .1 .0 .region) + 1
 
 abbrev region-value-at : ℕ → In 3 region-value-kinds.ps
 region-value-at t =
@@ -41,7 +51,6 @@ abbrev row-value-below : ℕ → In 3 row-value-kinds.ps
 row-value-below t =
     and 3 row-value-kinds.ps (falls 3 row-value-kinds.ps _<_ μ-row-value t) row-value.Pre
 
--- src/rows.rt:108:9
 region-value-region-of-requires : (t : ℕ) → region-value-lts.Need-region-of-requires (
   region-of-reads.Asked,
   region-of-reads.Learnt,
@@ -50,9 +59,8 @@ region-value-region-of-requires : (t : ℕ) → region-value-lts.Need-region-of-
   smaller-reads.Asked,
   smaller-reads.Learnt,
 ) (region-value-at t) region-value.Post
-region-value-region-of-requires t c κs = ?
+region-value-region-of-requires t c κs = search needs
 
--- src/rows.rt:111:73
 region-value-add-t16 : (t : ℕ) → region-value-lts.Need-add-t16 (
   region-of-reads.Asked,
   region-of-reads.Learnt,
@@ -61,9 +69,8 @@ region-value-add-t16 : (t : ℕ) → region-value-lts.Need-add-t16 (
   smaller-reads.Asked,
   smaller-reads.Learnt,
 ) (region-value-at t) region-value.Post
-region-value-add-t16 t c = ?
+region-value-add-t16 t c = let pre = c .before .before .before .before .before .before .before .before .pre .1 in let w = pre .ready .formed in omega (arith, pre .here, w .regions-most, w .leaves-most, w .peptides-most)
 
--- src/rows.rt:111:9
 region-value-row-value-requires : (t : ℕ) → region-value-lts.Need-row-value-requires (
   region-of-reads.Asked,
   region-of-reads.Learnt,
@@ -72,9 +79,10 @@ region-value-row-value-requires : (t : ℕ) → region-value-lts.Need-row-value-
   smaller-reads.Asked,
   smaller-reads.Learnt,
 ) (region-value-at t) region-value.Post
-region-value-row-value-requires t c κs = ?
+region-value-row-value-requires t c κs =
+    let pre = c .before .before .before .before .before .before .before .before .pre .1 in
+    (omega (arith, c .before .before .before .before .before .before .before .before .pre .0, pre .here), region-row _ _ _ pre (held-last _ _ (c .before .before .region-of .ensures)))
 
--- src/rows.rt:114:12
 region-value-cast-totals : (t : ℕ) → region-value-lts.Need-cast-totals (
   region-of-reads.Asked,
   region-of-reads.Learnt,
@@ -83,9 +91,8 @@ region-value-cast-totals : (t : ℕ) → region-value-lts.Need-cast-totals (
   smaller-reads.Asked,
   smaller-reads.Learnt,
 ) (region-value-at t) region-value.Post
-region-value-cast-totals t c = ?
+region-value-cast-totals t c = search needs
 
--- src/rows.rt:114:5
 region-value-mul-totals : (t : ℕ) → region-value-lts.Need-mul-totals (
   region-of-reads.Asked,
   region-of-reads.Learnt,
@@ -94,9 +101,8 @@ region-value-mul-totals : (t : ℕ) → region-value-lts.Need-mul-totals (
   smaller-reads.Asked,
   smaller-reads.Learnt,
 ) (region-value-at t) region-value.Post
-region-value-mul-totals t c = ?
+region-value-mul-totals t c = search needs
 
--- src/rows.rt:114:5
 region-value-slice-write-totals : (t : ℕ) → region-value-lts.Need-slice-write-totals (
   region-of-reads.Asked,
   region-of-reads.Learnt,
@@ -105,9 +111,8 @@ region-value-slice-write-totals : (t : ℕ) → region-value-lts.Need-slice-writ
   smaller-reads.Asked,
   smaller-reads.Learnt,
 ) (region-value-at t) region-value.Post
-region-value-slice-write-totals t c = ?
+region-value-slice-write-totals t c = let pre = c .before .before .before .before .before .before .before .before .before .before .before .before .pre .1 in omega (arith, pre .here, pre .room, c .before .before .before .row-value .kept .1 .1 .0)
 
--- src/rows.rt:115:22
 region-value-smaller-requires : (t : ℕ) → region-value-lts.Need-smaller-requires (
   region-of-reads.Asked,
   region-of-reads.Learnt,
@@ -116,9 +121,8 @@ region-value-smaller-requires : (t : ℕ) → region-value-lts.Need-smaller-requ
   smaller-reads.Asked,
   smaller-reads.Learnt,
 ) (region-value-at t) region-value.Post
-region-value-smaller-requires t c κs = ?
+region-value-smaller-requires t c κs = search needs
 
--- src/rows.rt:101:1
 region-value-same-length : (t : ℕ) → region-value-lts.Need-same-length (
   region-of-reads.Asked,
   region-of-reads.Learnt,
@@ -127,9 +131,8 @@ region-value-same-length : (t : ℕ) → region-value-lts.Need-same-length (
   smaller-reads.Asked,
   smaller-reads.Learnt,
 ) (region-value-at t) region-value.Post
-region-value-same-length t c = ?
+region-value-same-length t c = simp length-set (c .before .before .before .before .row-value .kept .1 .1 .0)
 
--- src/rows.rt:101:1
 region-value-returns : (t : ℕ) → region-value-lts.Need-returns (
   region-of-reads.Asked,
   region-of-reads.Learnt,
@@ -138,15 +141,19 @@ region-value-returns : (t : ℕ) → region-value-lts.Need-returns (
   smaller-reads.Asked,
   smaller-reads.Learnt,
 ) (region-value-at t) region-value.Post
-region-value-returns t c = ?
+region-value-returns t c =
+    let pre = c .before .before .before .before .before .before .before .before .before .before .before .before .before .pre .1 in
+    region-finishes _ _ _ _ _ _ pre (c .before .before .before .before .row-value .kept .1 .1 .0) (held-z _ _ (c .before .before .before .before .before .before .before .region-of .ensures)) (c .smaller .ensures) (c .before .before .before .before .row-value .ensures)
 
 abbrev row-value-Inv-loop : row-value-lts.InvT-loop
-row-value-Inv-loop file selection totals₀ last end total₀ at₀ totals total at = ?
+row-value-Inv-loop file selection totals₀ last end total₀ at₀ totals total at =
+    Along (familyOf file) selection (at₀ .region) (at₀ .peptide .0) at total
+    × Stored (familyOf file) selection totals₀ totals (at₀ .region) (at .region)
+    × (length totals ≡ length totals₀)
 
 abbrev row-value-μ-loop : row-value-lts.MeasureT-loop
-row-value-μ-loop file selection totals₀ last end total₀ at₀ totals total at = ?
+row-value-μ-loop file selection totals₀ last end total₀ at₀ totals total at = regionCount (familyOf file) - at .region
 
--- src/rows.rt:127:5
 row-value-loop-holds : (t : ℕ) → row-value-lts.Need-loop-holds (
   begins-by-reads.Asked,
   begins-by-reads.Learnt,
@@ -157,9 +164,8 @@ row-value-loop-holds : (t : ℕ) → row-value-lts.Need-loop-holds (
   pass-reads.Asked,
   pass-reads.Learnt,
 ) (row-value-at t) row-value.Post row-value-Inv-loop row-value-μ-loop
-row-value-loop-holds t c = ?
+row-value-loop-holds t c = let pre = c .before .before .before .pre .1 in (row-starts (pre .ready .formed) _ _ _ pre, stored-none _ _, refl)
 
--- src/rows.rt:127:11
 row-value-begins-by-requires : (t : ℕ) → row-value-lts.Need-begins-by-requires (
   begins-by-reads.Asked,
   begins-by-reads.Learnt,
@@ -170,9 +176,8 @@ row-value-begins-by-requires : (t : ℕ) → row-value-lts.Need-begins-by-requir
   pass-reads.Asked,
   pass-reads.Learnt,
 ) (row-value-at t) row-value.Post row-value-Inv-loop row-value-μ-loop
-row-value-begins-by-requires t c κs = ?
+row-value-begins-by-requires t c κs = search needs
 
--- src/rows.rt:128:13
 row-value-pass-to-region-requires : (t : ℕ) → row-value-lts.Need-pass-to-region-requires (
   begins-by-reads.Asked,
   begins-by-reads.Learnt,
@@ -183,9 +188,12 @@ row-value-pass-to-region-requires : (t : ℕ) → row-value-lts.Need-pass-to-reg
   pass-reads.Asked,
   pass-reads.Learnt,
 ) (row-value-at t) row-value.Post row-value-Inv-loop row-value-μ-loop
-row-value-pass-to-region-requires t c κs = ?
+row-value-pass-to-region-requires t c κs =
+    let pre = c .before .before .before .before .before .before .pre .1 in
+    let inv = c .before .before .loop .inv in
+    let e = begun _ _ (c .before .begins-by .ensures) (pre .ends) (c .if1 .taken) in
+    (pre .ready, (inv .0 .onLeaf, row-meets (pre .ready .formed) _ _ _ _ (inv .0) e))
 
--- src/rows.rt:131:13
 row-value-region-value-requires : (t : ℕ) → row-value-lts.Need-region-value-requires (
   begins-by-reads.Asked,
   begins-by-reads.Learnt,
@@ -196,9 +204,16 @@ row-value-region-value-requires : (t : ℕ) → row-value-lts.Need-region-value-
   pass-reads.Asked,
   pass-reads.Learnt,
 ) (row-value-at t) row-value.Post row-value-Inv-loop row-value-μ-loop
-row-value-region-value-requires t c κs = ?
+row-value-region-value-requires t c κs =
+    let pre = c .before .before .before .before .before .before .before .before .before .pre .1 in
+    let inv = c .before .before .before .before .before .loop .inv in
+    let e = begun _ _ (c .before .before .before .before .begins-by .ensures) (pre .ends) (c .before .before .before .if1 .taken) in
+    let meets = row-meets (pre .ready .formed) _ _ _ _ (inv .0) e in
+    let passed = c .before .before .pass-to-region .ensures in (
+      omega (arith, c .before .before .before .before .before .before .before .before .before .pre .0, meets .0, inv .0 .forward, passed .region),
+      region-meets (pre .ready .formed) _ _ _ _ (inv .0) _ _ (pre .ready) (omega (arith, pre .room, inv .2)) e passed,
+    )
 
--- src/rows.rt:134:17
 row-value-add-total : (t : ℕ) → row-value-lts.Need-add-total (
   begins-by-reads.Asked,
   begins-by-reads.Learnt,
@@ -209,9 +224,15 @@ row-value-add-total : (t : ℕ) → row-value-lts.Need-add-total (
   pass-reads.Asked,
   pass-reads.Learnt,
 ) (row-value-at t) row-value.Post row-value-Inv-loop row-value-μ-loop
-row-value-add-total t c = ?
+row-value-add-total t c =
+    let pre = c .before .before .before .before .before .before .before .before .before .before .before .before .before .pre .1 in
+    let w = pre .ready .formed in
+    let inv = c .before .before .before .before .before .before .before .before .before .loop .inv in
+    let e = begun _ _ (c .before .before .before .before .before .before .before .before .begins-by .ensures) (pre .ends) (c .before .before .before .before .before .before .before .if1 .taken) in
+    let k = c .before .before .before .before .before .before .before .before .before .loop .at .region in
+    let l = row-meets w _ _ _ _ (inv .0) e .0 in
+    omega (arith, pass-fits w _ _ _ _ (inv .0) _ _ (omega (arith, w .ordered .first-last k l, w .ordered .last-leaf k l)) (c .before .before .before .before .before .before .pass-to-region .ensures))
 
--- src/rows.rt:134:17
 row-value-add-total-2 : (t : ℕ) → row-value-lts.Need-add-total-2 (
   begins-by-reads.Asked,
   begins-by-reads.Learnt,
@@ -222,9 +243,12 @@ row-value-add-total-2 : (t : ℕ) → row-value-lts.Need-add-total-2 (
   pass-reads.Asked,
   pass-reads.Learnt,
 ) (row-value-at t) row-value.Post row-value-Inv-loop row-value-μ-loop
-row-value-add-total-2 t c = ?
+row-value-add-total-2 t c =
+    let pre = c .before .before .before .before .before .before .before .before .before .before .before .before .before .pre .1 in
+    let w = pre .ready .formed in
+    let e = begun _ _ (c .before .before .before .before .before .before .before .before .begins-by .ensures) (pre .ends) (c .before .before .before .before .before .before .before .if1 .taken) in
+    omega (arith, row-fits w _ _ _ _ (row-steps w _ _ _ _ (c .before .before .before .before .before .before .before .before .before .loop .inv .0) _ _ _ _ e (c .before .before .before .before .before .before .pass-to-region .ensures) (c .before .before .before .region-value .ensures)))
 
--- src/rows.rt:127:5
 row-value-loop-less : (t : ℕ) → row-value-lts.Need-loop-less (
   begins-by-reads.Asked,
   begins-by-reads.Learnt,
@@ -235,9 +259,10 @@ row-value-loop-less : (t : ℕ) → row-value-lts.Need-loop-less (
   pass-reads.Asked,
   pass-reads.Learnt,
 ) (row-value-at t) row-value.Post row-value-Inv-loop row-value-μ-loop
-row-value-loop-less t c = ?
+row-value-loop-less t c =
+    let walk = c .before .before .before .region-value .ensures in
+    omega (arith, walk .later, walk .walked .most, c .before .before .before .before .before .before .pass-to-region .ensures .region)
 
--- src/rows.rt:127:5
 row-value-loop-again : (t : ℕ) → row-value-lts.Need-loop-again (
   begins-by-reads.Asked,
   begins-by-reads.Learnt,
@@ -248,9 +273,17 @@ row-value-loop-again : (t : ℕ) → row-value-lts.Need-loop-again (
   pass-reads.Asked,
   pass-reads.Learnt,
 ) (row-value-at t) row-value.Post row-value-Inv-loop row-value-μ-loop
-row-value-loop-again t c = ?
+row-value-loop-again t c =
+    let pre = c .before .before .before .before .before .before .before .before .before .before .before .before .before .pre .1 in
+    let inv = c .before .before .before .before .before .before .before .before .before .loop .inv in
+    let e = begun _ _ (c .before .before .before .before .before .before .before .before .begins-by .ensures) (pre .ends) (c .before .before .before .before .before .before .before .if1 .taken) in
+    let passed = c .before .before .before .before .before .before .pass-to-region .ensures in
+    let walk = c .before .before .before .region-value .ensures in (
+      row-steps (pre .ready .formed) _ _ _ _ (inv .0) _ _ _ _ e passed walk,
+      stored-more (inv .0 .forward) (omega (arith, walk .later, passed .region)) (inv .1) (rw (passed .region) at (walk .stored)),
+      c .before .before .before .region-value .kept .1 .1 .0 ∙ inv .2,
+    )
 
--- src/rows.rt:137:9
 row-value-pass-requires : (t : ℕ) → row-value-lts.Need-pass-requires (
   begins-by-reads.Asked,
   begins-by-reads.Learnt,
@@ -261,9 +294,12 @@ row-value-pass-requires : (t : ℕ) → row-value-lts.Need-pass-requires (
   pass-reads.Asked,
   pass-reads.Learnt,
 ) (row-value-at t) row-value.Post row-value-Inv-loop row-value-μ-loop
-row-value-pass-requires t c κs = ?
+row-value-pass-requires t c κs =
+    let pre = c .before .before .before .before .before .before .pre .1 in
+    let inv = c .before .before .loop .inv in
+    let ends = leaf-before (pre .ready .formed) (c .before .before .before .before .before .before .args .from .region) (pre .here) in
+    (pre .ready, (inv .0 .onLeaf, (omega (arith, inv .0 .here, pre .ends), omega (arith, ends .1, pre .ends))))
 
--- src/rows.rt:140:22
 row-value-add-t22 : (t : ℕ) → row-value-lts.Need-add-t22 (
   begins-by-reads.Asked,
   begins-by-reads.Learnt,
@@ -274,9 +310,12 @@ row-value-add-t22 : (t : ℕ) → row-value-lts.Need-add-t22 (
   pass-reads.Asked,
   pass-reads.Learnt,
 ) (row-value-at t) row-value.Post row-value-Inv-loop row-value-μ-loop
-row-value-add-t22 t c = ?
+row-value-add-t22 t c =
+    let pre = c .before .before .before .before .before .before .before .before .pre .1 in
+    let w = pre .ready .formed in
+    let ends = leaf-before w (c .before .before .before .before .before .before .before .before .args .from .region) (pre .here) in
+    omega (arith, pass-fits w _ _ _ _ (c .before .before .before .before .loop .inv .0) _ _ (omega (arith, ends .1, pre .ends)) (c .before .pass .ensures))
 
--- src/rows.rt:120:1
 row-value-same-length : (t : ℕ) → row-value-lts.Need-same-length (
   begins-by-reads.Asked,
   begins-by-reads.Learnt,
@@ -287,9 +326,8 @@ row-value-same-length : (t : ℕ) → row-value-lts.Need-same-length (
   pass-reads.Asked,
   pass-reads.Learnt,
 ) (row-value-at t) row-value.Post row-value-Inv-loop row-value-μ-loop
-row-value-same-length t c = ?
+row-value-same-length t c = c .before .before .before .before .loop .inv .2
 
--- src/rows.rt:120:1
 row-value-returns : (t : ℕ) → row-value-lts.Need-returns (
   begins-by-reads.Asked,
   begins-by-reads.Learnt,
@@ -300,7 +338,11 @@ row-value-returns : (t : ℕ) → row-value-lts.Need-returns (
   pass-reads.Asked,
   pass-reads.Learnt,
 ) (row-value-at t) row-value.Post row-value-Inv-loop row-value-μ-loop
-row-value-returns t c = ?
+row-value-returns t c =
+    let pre = c .before .before .before .before .before .before .before .before .pre .1 in
+    let inv = c .before .before .before .before .loop .inv in
+    let e = begun _ _ (c .before .before .before .begins-by .ensures) refl (c .before .before .if1 .left) in
+    row-finishes (pre .ready .formed) _ _ _ _ _ _ _ _ (inv .0) pre e (c .before .pass .ensures) (inv .1) refl
 
 pub +region-value+row-value-spec : {M : Type 1} → statement M
 +region-value+row-value-spec = close μ-region-value μ-row-value (λ t. region-value-lts.spec (
