@@ -12,3 +12,5 @@ pub mod Family
 pub mod Selecting
 pub mod RowTotals
 pub mod RowWalk
+pub mod TakenBytes
+pub mod SelectionCalls

@@ -59,6 +59,10 @@ sum-those d t f (x ∷ L) = omega (arith, sum-those d t f L, sum-front (length L
     head true = refl
     head false = omega arith
 
+pub range-z : (F : Family) (k : ℕ) → rangeAt F k .z ≡ region F k .z
+unfolding rangeAt rangeOf
+range-z F k = refl
+
 -- Region k is just inside the range of the row that begins at region b.
 abbrev pub isPart : Family → ℕ → ℕ → Bool
 isPart F b k = justInside (rangesOf F) (rangeAt F k) (rowRange F b)

@@ -14,15 +14,17 @@ use borrow.Author.Tests.{leb-true, leb-false, ltb-true, ltb-false}
 use Rattle.reader.specs.Family.{Family, leaves, regionCount, region, peptidesUpTo}
 use Rattle.reader.specs.WellFormed.{WellFormed}
 use Rattle.reader.proofs.Bools.{and-l, and-r, and-fails}
-use Rattle.bounds.specs.Ranges.{Range, card, count, rangeOf, rangesOf}
+use Rattle.bounds.specs.Ranges.{Range, card, count, rangesOf}
 use Rattle.bounds.specs.Bound.{total, value}
-use Rattle.bounds.specs.Selections.{selected}
+use Rattle.bounds.specs.Selections.{selected, boundOf}
 use Rattle.bounds.specs.declared.rows.Cursor.{Cursor}
 use Rattle.bounds.specs.declared.rows.Counted.{Counted}
-use Rattle.bounds.specs.Rows.{rangeAt, rowRange, leafBefore, lastLeaf, beginsBy, Ready, OnLeaf, Passed, Walked, Stored, RegionWalked, RowWalked, RegionReady, RowReady}
+use Rattle.bounds.specs.Rows.{rangeAt, rowRange, leafBefore, lastLeaf, beginsBy, Ready, OnLeaf, Passed, Walked, Stored, RegionWalked, RowWalked, RegionReady, RowReady, LineWalked}
+use Rattle.reader.proofs.Walk.{nothing-before}
 use Rattle.bounds.proofs.Members.{le-or-lt}
+use Rattle.bounds.proofs.Totals.{bound-is}
 use Rattle.bounds.proofs.Selecting.{card-most}
-use Rattle.bounds.proofs.RowTotals.{isPart, partSum, part-here, part-deeper, part-after, part-sum-none, part-sum-one, part-sum-start, leaf-most, region-counted, row-total}
+use Rattle.bounds.proofs.RowTotals.{range-z, laminar, line-is-around, isPart, partSum, part-here, part-deeper, part-after, part-sum-none, part-sum-one, part-sum-start, leaf-most, region-counted, row-total}
 
 -- Stored totals.
 
@@ -46,10 +48,6 @@ module _ {F : Family} {selection : List ℕ} where
         totals = λ i a l. ⊎-elim (λ q. rw (← q) (getD-set-same new k v 0 room ∙ h)) (λ q. getD-set-other new k i v 0 (λ x. omega arith) ∙ s .totals i q l) (eq-or-lt-of-le a);
         others = λ i a. getD-set-other new k i v 0 (λ x. ⊎-elim (λ h. omega arith) (λ h. omega arith) a) ∙ s .others i (⊎-elim (λ h. inl (omega arith)) (λ h. inr h) a);
       }
-
-range-z : (F : Family) (k : ℕ) → rangeAt F k .z ≡ region F k .z
-unfolding rangeAt rangeOf
-range-z F k = refl
 
 -- Where the next region begins.
 
@@ -273,4 +271,35 @@ module _ {F : Family} {selection : List ℕ} where
         later = walked .forward;
         walked = walked;
         stored = stored-own old new (c .region) (r .at .region) (r .count) (walked .forward) (omega (arith, ready .here, ready .room)) stored own;
+      }
+
+-- The whole line.
+
+module _ {F : Family} {selection : List ℕ} where
+  pub line-row : (c : Cursor) (totals : List ℕ) (last : ℕ) → Ready F selection → regionCount F ≤ length totals
+      → c .region ≡ 0 → c .leaf .0 ≡ 0 → c .peptide .0 ≡ 0 → last ≡ leaves F → RowReady F selection totals c last
+  unfolding leafBefore lastLeaf
+  line-row c totals last r room first leaf peptide e =
+      record {
+        ready = r;
+        room = room;
+        here = omega arith;
+        leaf = rw first leaf;
+        peptide = rw leaf (peptide ∙ sym (nothing-before F));
+        ends = rw first e;
+      }
+
+  -- no region is after the last leaf
+  pub line-finishes : (c : Cursor) (r : Counted) (old new : List ℕ) → Ready F selection → c .region ≡ 0 → RowWalked F selection old new c r
+      → LineWalked F selection old new (r .count)
+  unfolding rowRange lastLeaf boundOf
+  line-finishes c r old new ready first row =
+      let w = ready .formed in
+      let walked : Walked F 0 (leaves F) (r .at .region) = rw first at (row .walked) in
+      let all : r .at .region ≡ regionCount F =
+      ⊎-elim (λ e. e) (λ l. let k = r .at .region in absurd (omega (arith, walked .ahead l, w .ordered .first-last k l, w .ordered .last-leaf k l)))
+      (eq-or-lt-of-le (walked .most)) in
+      record {
+        bound = rw first at (row .total) ∙ sym (bound-is (laminar w) (line-is-around w) (selected selection));
+        stored = rw (first, all) at (row .stored);
       }

@@ -5,3 +5,4 @@ pub mod Selections
 pub mod Curves
 pub mod Calls
 pub mod Rows
+pub mod Takes

@@ -1,11 +1,15 @@
 // A selection of peptides: m bytes, each 0 or 1.
+use reader::Checked;
+use reader::check;
 use reader::family::Peptide;
 ghost use mathlib.Core.Bool.{cond};
 ghost use mathlib.Core.Path.{_≡_};
 ghost use Prim.Native.Nat.{suc, _+_, _<_, _≤_};
 ghost use lib.ListN.{length};
 ghost use Rattle.bounds.specs.Ranges.{card};
+ghost use Rattle.reader.specs.Causes.{firstCause};
 ghost use Rattle.bounds.specs.Selections.{selected, cause14};
+ghost use Rattle.bounds.specs.Rows.{causesWith};
 
 // Not m bytes, or a byte over 1.
 pub(crate) fn bad_selection(selection: &[u8], m: u16) -> bool
@@ -45,4 +49,23 @@ pub(crate) fn selected_between(selection: &[u8], after: Peptide, upto: Peptide) 
         i += 1;
     }
     count
+}
+
+// The first cause of a call with a selection and an output of so many places, or 0.
+pub(crate) fn selection_cause(file: &[u8], selection: &[u8], room: usize) -> u16
+    ensures { λ r. ⌜ r ≡ firstCause (causesWith (now (file .entry)) (now (selection .entry)) room) ⌝ }
+{
+    match check(file) {
+        Checked::Family {
+            peptides,
+            leaves: _,
+            regions,
+        } => {
+            if bad_selection(selection, peptides) {
+                return 14;
+            }
+            if room < regions as usize { 16 } else { 0 }
+        }
+        Checked::Refused(number) => number,
+    }
 }
