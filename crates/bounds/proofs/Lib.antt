@@ -14,3 +14,4 @@ pub mod RowTotals
 pub mod RowWalk
 pub mod TakenBytes
 pub mod SelectionCalls
+pub mod Theorems

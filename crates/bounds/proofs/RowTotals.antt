@@ -7,7 +7,7 @@ use mathlib.Core.Path.{_≡_, refl, ap, _∙_}
 use native.Mathlib.Nat.{eq-or-lt-of-le}
 use native.Mathlib.Omega.{arith}
 use lib.ListN.{length, getD}
-use Rattle.reader.specs.Family.{Region, Family, leaves, regionCount, region, peptidesUpTo}
+use Rattle.reader.specs.Family.{Family, leaves, regionCount, region, peptidesUpTo}
 use Rattle.reader.specs.WellFormed.{WellFormed}
 use Rattle.reader.proofs.Walk.{up-to-end, nothing-before}
 use Rattle.bounds.specs.Ranges.{Range, Peptides, card, count, those, sumOver, justInside, parts, rangeOf, rangesOf}

@@ -9,13 +9,12 @@ use lib.ListN.{length, drop}
 use borrow.Author.Tests.{ltb-false}
 use Rattle.reader.specs.Bytes.{IsBytes}
 use Rattle.reader.specs.Family.{familyOf, regionCount}
-use Rattle.reader.specs.Causes.{Cause, firstCause, headerCauses, familyCauses, fileCauses, Accepted}
-use Rattle.reader.specs.Calls.{Report, answer, written}
-use Rattle.reader.proofs.First.{Numbered, first-holds, first-fails, head-clear, join-clear, join-holds, clear-left, clear-right, answers, declines, writes, leaves-unchanged}
+use Rattle.reader.specs.Causes.{firstCause, headerCauses, familyCauses, fileCauses, Accepted}
+use Rattle.reader.specs.Calls.{answer, written}
+use Rattle.reader.proofs.First.{Numbered, head-clear, join-clear, join-holds, clear-left, clear-right, answers, declines, writes, leaves-unchanged}
 use Rattle.reader.proofs.Accepting.{well-formed}
 use Rattle.bounds.specs.Selections.{cause14, boundOf}
 use Rattle.bounds.specs.Rows.{Ready, causesWith}
-use Rattle.bounds.specs.declared.Bounded.{Bounded}
 use Rattle.bounds.specs.declared.Bounded.the-variants as bounded
 use Rattle.bounds.specs.Calls.{reportBound, short, selectionCauses}
 use Rattle.bounds.proofs.Selecting.{right-length}

@@ -1,16 +1,16 @@
 -- What the private functions that compute inside totals promise each other.
 use Prim.Native.Nat.{ℕ, zero, suc, _+_, _-_, _≤_, _<_}
-use mathlib.Core.Bool.{Bool, cond, _&&_}
+use mathlib.Core.Bool.{Bool, _&&_}
 use mathlib.Core.List.{List, [], _∷_, _++_}
 use mathlib.Core.Logic.{_⊎_}
 use mathlib.Core.Path.{_≡_}
 use lib.ListN.{length, getD}
 use lib.Dec.{leb, ltb}
-use Rattle.reader.specs.Family.{Region, Family, leaves, regionCount, region, peptidesUpTo, familyOf}
+use Rattle.reader.specs.Family.{Family, leaves, regionCount, region, peptidesUpTo, familyOf}
 use Rattle.reader.specs.WellFormed.{WellFormed}
 use Rattle.reader.specs.Causes.{Cause, fileCauses}
-use Rattle.bounds.specs.Ranges.{Range, Peptides, card, rangeOf, rangesOf}
-use Rattle.bounds.specs.Bound.{total, value, isTaken}
+use Rattle.bounds.specs.Ranges.{Range, card, rangeOf, rangesOf}
+use Rattle.bounds.specs.Bound.{total, value}
 use Rattle.bounds.specs.Selections.{cause14, selected, boundOf}
 use Rattle.bounds.specs.declared.rows.Cursor.{Cursor}
 use Rattle.bounds.specs.declared.rows.Counted.{Counted}

@@ -11,7 +11,6 @@ ghost use mathlib.Core.Path.{_≡_};
 ghost use Prim.Native.Nat.{_-_, _<_, _≤_, min};
 ghost use lib.ListN.{length};
 ghost use Rattle.reader.specs.Family.{familyOf, leaves, regionCount, region, peptidesUpTo};
-ghost use Rattle.bounds.specs.Selections.{boundOf};
 ghost use Rattle.bounds.specs.Rows.{beginsBy, Ready, OnLeaf, Passed, RegionReady, RowReady, RegionWalked, RowWalked, LineWalked};
 
 // Where a walk along the line stands: the next region, and the last leaf and the last peptide passed, 0 before the first.
@@ -108,11 +107,24 @@ fn region_value(file: &[u8], selection: &[u8], totals: &mut [u16], from: Cursor)
     let r = region_of(file, k);
     let z = r.z;
     let last = r.last;
-    let row = row_value(file, selection, totals, last, Cursor { region: k + 1, leaf, peptide });
+    let row = row_value(
+        file,
+        selection,
+        totals,
+        last,
+        Cursor {
+            region: k + 1,
+            leaf,
+            peptide,
+        },
+    );
     let total = row.count;
     let at = row.at;
     totals[k as usize] = total;
-    Counted { count: smaller(z, total), at }
+    Counted {
+        count: smaller(z, total),
+        at,
+    }
 }
 
 // The inside total of the row that begins at the cursor and ends with a leaf: the values of its regions, and the selected
@@ -137,7 +149,10 @@ fn row_value(file: &[u8], selection: &[u8], totals: &mut [u16], last: Leaf, from
     let rest = pass(file, selection, at, last);
     let free = rest.count;
     let next = rest.at;
-    Counted { count: total + free, at: next }
+    Counted {
+        count: total + free,
+        at: next,
+    }
 }
 
 // The bound of the selection: the inside total of the whole line. The inside totals of all regions are stored.

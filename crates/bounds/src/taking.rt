@@ -30,7 +30,10 @@ fn take(file: &[u8], k: u16, total: u16, until: Leaf) -> Step
     }
     let z = r.z;
     if z < total {
-        return Step { byte: 1, until: last };
+        return Step {
+            byte: 1,
+            until: last,
+        };
     }
     Step { byte: 0, until }
 }

@@ -1,6 +1,6 @@
 -- The byte of the peptide after the i-th stands at place i.
 use Rattle.bounds.specs.Selections.{selected}
-use borrow.Author.Tests.{eq-eqb, ne-eqb}
+use borrow.Author.Tests.{ne-eqb}
 use borrow.Author.Needs.{needs}
 use Rattle.bounds.proofs.selection.bit_after.Statement.{statement}
 use Rattle.bounds.proofs.selection.bit_after.Tie as tie

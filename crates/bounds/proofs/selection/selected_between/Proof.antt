@@ -1,12 +1,11 @@
 -- The loop has counted the selected peptides after the first i₀ and up to i.
-use Prim.Native.Nat.{ℕ, suc, _+_, _≤_, _-_}
+use Prim.Native.Nat.{suc, _+_, _≤_, _-_}
 use native.Mathlib.Omega.{arith}
 use mathlib.Core.Path.{_≡_}
 use lib.ListN.{length}
 use denote.Ref.{now}
 use Rattle.bounds.specs.Ranges.{card}
 use Rattle.bounds.specs.Selections.{selected}
-use Rattle.bounds.proofs.Members.{bit, bit-mono}
 use Rattle.bounds.proofs.Selecting.{card-next, bit-few}
 use borrow.Author.Needs.{needs}
 use Rattle.bounds.proofs.selection.selected_between.Statement.{statement}

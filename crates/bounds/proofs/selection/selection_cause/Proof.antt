@@ -1,13 +1,11 @@
 -- The causes of the file come first, then 14, then 16.
 use native.Mathlib.Omega.{arith}
-use mathlib.Core.Path.{_≡_, sym, ap, _∙_}
-use lib.Dec.{ltb}
+use mathlib.Core.Path.{sym, ap, _∙_}
 use borrow.Author.Tests.{lt-ltb, le-ltb}
 use denote.Ref.{now}
 use Rattle.reader.specs.Family.{familyOf, regionCount}
 use Rattle.reader.specs.Calls.{report}
 use Rattle.reader.proofs.Accepting.{learns-accepted, learns-refused}
-use Rattle.bounds.specs.Selections.{cause14}
 use Rattle.bounds.proofs.SelectionCalls.{cause-of-file, cause-14, cause-16}
 use borrow.Author.Needs.{needs}
 use Rattle.bounds.proofs.selection.selection_cause.Statement.{statement}

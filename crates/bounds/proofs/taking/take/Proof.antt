@@ -1,12 +1,7 @@
 -- The three cases of the test.
-use Prim.Native.Nat.{ℕ}
-use mathlib.Core.Bool.{cond, _&&_}
 use native.Mathlib.Omega.{arith}
-use mathlib.Core.Path.{_≡_, refl}
-use lib.Dec.{ltb}
-use borrow.Author.Tests.{lt-ltb, le-ltb}
 use denote.Ref.{now}
-use Rattle.reader.specs.Family.{familyOf, region}
+use Rattle.reader.specs.Family.{familyOf}
 use Rattle.reader.proofs.Parsed.{held-first, held-last, held-z}
 use Rattle.bounds.proofs.TakenBytes.{not-begun, not-over, both-take}
 use borrow.Author.Needs.{needs}

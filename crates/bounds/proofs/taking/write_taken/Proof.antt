@@ -15,7 +15,7 @@ use Rattle.bounds.proofs.taking.write_taken.Statement.{statement}
 use Rattle.bounds.proofs.taking.write_taken.Tie as tie
 
 abbrev Inv-loop : tie.InvT-loop
-Inv-loop file totals taken₀ regions until₀ k₀ taken until k = 
+Inv-loop file totals taken₀ regions until₀ k₀ taken until k =
     (k ≤ regions) × (regions ≡ numberAt file 8) × (length taken ≡ length taken₀) × (until .0 ≡ takenUntil (familyOf file) totals k)
     × (taken ≡ take k (takenAlong (familyOf file) totals) ++ drop k taken₀)
 
