@@ -9,6 +9,12 @@ pub mod Formula
 pub mod Paths
 pub mod Taken
 pub mod Family
+pub mod Selecting
+pub mod RowTotals
+pub mod RowWalk
+pub mod TakenBytes
+pub mod SelectionCalls
+pub mod Theorems
 pub mod Holding
 pub mod Walking
 pub mod PathLaws
