@@ -9,22 +9,22 @@ use native.Mathlib.Numerals.{add-one}
 use native.Mathlib.Omega.{arith}
 use lib.ListN.{length, getD, take, drop, set}
 use lib.Seq.{take-suc, getD-take, drop-cons, set-at, append-snoc, length-take-le, drop-set-lt}
-use lib.Dec.{leb, eqb}
+use lib.Dec.{leb}
 use borrow.Author.Tests.{leb-true, le-leb, eq-eqb, ne-eqb}
 use Rattle.reader.specs.Lists.{tabulate}
-use Rattle.reader.specs.Family.{Family, leaves, regionCount, region, leafOf, peptidesUpTo}
+use Rattle.reader.specs.Family.{Family, regionCount, region, leafOf}
 use Rattle.reader.specs.WellFormed.{WellFormed}
 use Rattle.reader.proofs.Below.{some-at, found}
 use Rattle.reader.proofs.Lists.{length-tabulate}
 use Rattle.reader.proofs.Walk.{FirstReaching, leaf-found}
 use Rattle.bounds.specs.Ranges.{Range, Peptides, rangeOf, rangesOf, has, card, count}
-use Rattle.bounds.specs.Curves.{among, entry, curveValues, markAt, curveMarks, largestUpTo, cutOf}
+use Rattle.bounds.specs.Curves.{among, entry, markAt, largestUpTo}
 use Rattle.bounds.specs.Paths.{IsPath}
 use Rattle.bounds.specs.Walks.{holdsLeaf, crowded, Stepped}
-use Rattle.bounds.proofs.Members.{test, clash, refuted, both-ways, and-l, and-r, and-both, bit, bit-mono, le-or-lt, In, Place, place}
+use Rattle.bounds.proofs.Members.{test, clash, refuted, both-ways, and-l, and-r, and-both, bit, bit-mono, le-or-lt, In, place}
 use Rattle.bounds.proofs.Counting.{none, card-none, adding, count-none, count-adding, count-adding-other}
 use Rattle.bounds.proofs.Nesting.{has-facts, has-holds}
-use Rattle.bounds.proofs.Greedy.{Stopped, blocked, blocked-facts, blocked-holds, mark, among-facts, greedy, greedy-snoc, greedy-new}
+use Rattle.bounds.proofs.Greedy.{blocked, blocked-facts, blocked-holds, mark, among-facts, greedy, greedy-snoc, greedy-new}
 use Rattle.bounds.proofs.Paths.{path-bound, entry-step}
 use Rattle.bounds.proofs.Family.{upTo-mono, noRange, ranges-length, range-at, range-in, family-laminar}
 use Rattle.bounds.proofs.Holding.{full, holds-facts, from-holds}

@@ -1,6 +1,4 @@
 -- By the test; a product of two 16-bit numbers fits 32 bits.
-use mathlib.Core.Path.{_≡_}
-use native.Mathlib.Omega.{arith}
 use borrow.Author.Tests.{le-leb, lt-leb}
 use Rattle.bounds.proofs.Walking.{product-fits}
 use borrow.Author.Needs.{needs}
