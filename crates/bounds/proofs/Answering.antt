@@ -1,6 +1,6 @@
 -- What the calls with a path answer and write, by the first cause that holds.
-use Prim.Native.Nat.{ℕ, _+_, _<_, _≤_}
-use mathlib.Core.Bool.{Bool, true, false, _||_}
+use Prim.Native.Nat.{ℕ, _+_}
+use mathlib.Core.Bool.{true, false, _||_}
 use mathlib.Core.List.{List, [], _∷_, _++_, append-assoc}
 use mathlib.Core.Path.{_≡_, refl, sym, ap, _∙_}
 use native.Mathlib.Omega.{arith}
@@ -10,7 +10,7 @@ use Rattle.reader.specs.Causes.{Cause, firstCause, headerCauses, familyCauses, 
 use Rattle.reader.specs.Calls.{Report, written}
 use Rattle.reader.proofs.Lists.{length-tabulate}
 use Rattle.reader.proofs.First.{Numbered, first-holds, first-fails, join-clear, join-holds, answers, declines, writes, leaves-unchanged}
-use Rattle.bounds.specs.Curves.{curveValues, curveMarks, cutOf, entry, markAt, repeated, cause15}
+use Rattle.bounds.specs.Curves.{curveValues, curveMarks, cutOf, entry, markAt, cause15}
 use Rattle.bounds.specs.Calls.{Answers, short, pathCauses, curveCauses, cutCauses}
 use Rattle.bounds.specs.Walks.{inputCauses}
 use Rattle.bounds.proofs.PathLaws.{RepeatedAt}

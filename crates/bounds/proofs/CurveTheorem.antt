@@ -17,12 +17,12 @@ use Rattle.reader.specs.Causes.{Accepted}
 use Rattle.reader.specs.WellFormed.{WellFormed}
 use Rattle.reader.proofs.Lists.{getD-tabulate}
 use Rattle.reader.proofs.Accepting.{well-formed}
-use Rattle.bounds.specs.Ranges.{Range, Peptides, rangesOf, card, count}
+use Rattle.bounds.specs.Ranges.{Range, Peptides, rangesOf, card}
 use Rattle.bounds.specs.Bound.{Admissible, IsLargest}
 use Rattle.bounds.specs.Curves.{among, entry, curveValues, markAt, curveMarks}
 use Rattle.bounds.specs.Paths.{IsPath, marked}
-use Rattle.bounds.proofs.Members.{test, bit, In}
-use Rattle.bounds.proofs.Counting.{none, card-same, adding, count-same}
+use Rattle.bounds.proofs.Members.{test, bit}
+use Rattle.bounds.proofs.Counting.{card-same, adding, count-same}
 use Rattle.bounds.proofs.Greedy.{respects-facts, respects-holds, greedy}
 use Rattle.bounds.proofs.Formula.{formula3}
 use Rattle.bounds.proofs.Paths.{path-admissible, path-bound}

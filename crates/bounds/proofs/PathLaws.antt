@@ -1,7 +1,7 @@
 -- Causes 11 to 13: what they say of a path, how the first repeat is found, and the first cause of a family and a path.
 use Prim.Native.Nat.{ℕ, zero, suc, _+_, _-_, _<_, _≤_}
 use mathlib.Core.Bool.{Bool, true, false, cond, _||_}
-use mathlib.Core.List.{List, [], _∷_, _++_}
+use mathlib.Core.List.{List, [], _∷_}
 use mathlib.Core.Logic.{_⊎_, inl, inr, ⊎-elim}
 use mathlib.Core.Path.{_≡_, refl, sym, ap, subst, _∙_}
 use native.Mathlib.Numerals.{add-one}
@@ -15,15 +15,15 @@ use Rattle.reader.specs.Bytes.{IsBytes}
 use Rattle.reader.specs.Family.{Family, familyOf, regionCount}
 use Rattle.reader.specs.Causes.{Cause, firstCause, headerCauses, familyCauses, fileCauses, Accepted}
 use Rattle.reader.specs.WellFormed.{ParentsBelow}
-use Rattle.reader.specs.Climb.{Nested}
-use Rattle.reader.proofs.Bools.{or-fails-l, or-fails-r, or-neither}
+use Rattle.reader.proofs.Bools.{or-fails-l, or-fails-r}
 use Rattle.reader.proofs.Below.{none-at, none-below, first-at, first-none}
-use Rattle.reader.proofs.First.{Numbered, join-clear, join-holds}
+use Rattle.reader.proofs.First.{Numbered, head-clear, join-clear, join-holds}
 use Rattle.reader.proofs.Accepting.{well-formed, accepted-header, few-regions}
 use Rattle.bounds.specs.Curves.{cause11, cause12, repeated, cause13}
 use Rattle.bounds.specs.Calls.{pathCauses}
+use Rattle.bounds.specs.Paths.{IsPath}
 use Rattle.bounds.specs.Walks.{numberCause, firstRepeat, inputCauses, Walkable}
-use Rattle.bounds.proofs.Members.{test, clash, or-l, or-r, bit}
+use Rattle.bounds.proofs.Members.{test, clash, or-r, bit}
 
 -- The first number that passes a test.
 
@@ -180,6 +180,19 @@ path-differs path h i j l lj e =
     (none-at (λ i. eqb (getD path i 0) (getD path j 0)) j i (sym (repeated-seen path j) ∙ none-at (λ i. repeated path (i + 1)) (length path) j h lj) l)
     e
 
+pub is-path : (m : ℕ) (path : List ℕ) → numberCause m path ≡ 0 → cause13 path ≡ false → IsPath m path
+is-path m path n d =
+    record { some = λ i l. path-numbers m path n i l .0; most = λ i l. path-numbers m path n i l .1; differ = path-differs path d }
+
+-- A path for which none of the causes 11 to 13 holds is a path of different peptides.
+pub accepted-path : (m : ℕ) (path : List ℕ) → firstCause (pathCauses m path) ≡ 0 → IsPath m path
+unfolding pathCauses numberCause
+accepted-path m path h =
+    let a = head-clear _ _ (omega arith) h in
+    let b = head-clear _ _ (omega arith) (a .1) in
+    let c = head-clear _ _ (omega arith) (b .1) in
+    is-path m path (rw (a .0, b .0)) (c .0)
+
 -- The first cause of a family and a path.
 
 file-numbered : (s : List ℕ) → Numbered (fileCauses s)
@@ -220,10 +233,5 @@ module _ (s path : List ℕ) where
         well = well;
         nested = record { ordered = well .ordered; nested = well .nested; known = parents; few = few-regions s (accepted-header s accepted); room = room };
         short = path-short (F .peptides) path n;
-        different =
-            record {
-              some = λ i l. path-numbers (F .peptides) path n i l .0;
-              most = λ i l. path-numbers (F .peptides) path n i l .1;
-              differ = path-differs path d;
-            };
+        different = is-path (F .peptides) path n d;
       }

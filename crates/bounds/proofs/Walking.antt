@@ -9,22 +9,22 @@ use native.Mathlib.Numerals.{add-one}
 use native.Mathlib.Omega.{arith}
 use lib.ListN.{length, getD, take, drop, set}
 use lib.Seq.{take-suc, getD-take, drop-cons, set-at, append-snoc, length-take-le, drop-set-lt}
-use lib.Dec.{leb, eqb}
+use lib.Dec.{leb}
 use borrow.Author.Tests.{leb-true, le-leb, eq-eqb, ne-eqb}
 use Rattle.reader.specs.Lists.{tabulate}
-use Rattle.reader.specs.Family.{Family, leaves, regionCount, region, leafOf, peptidesUpTo}
+use Rattle.reader.specs.Family.{Family, regionCount, region, leafOf}
 use Rattle.reader.specs.WellFormed.{WellFormed}
 use Rattle.reader.proofs.Below.{some-at, found}
 use Rattle.reader.proofs.Lists.{length-tabulate}
 use Rattle.reader.proofs.Walk.{FirstReaching, leaf-found}
 use Rattle.bounds.specs.Ranges.{Range, Peptides, rangeOf, rangesOf, has, card, count}
-use Rattle.bounds.specs.Curves.{among, entry, curveValues, markAt, curveMarks, largestUpTo, cutOf}
+use Rattle.bounds.specs.Curves.{among, entry, markAt, largestUpTo}
 use Rattle.bounds.specs.Paths.{IsPath}
 use Rattle.bounds.specs.Walks.{holdsLeaf, crowded, Stepped}
-use Rattle.bounds.proofs.Members.{test, clash, refuted, both-ways, and-l, and-r, and-both, bit, bit-mono, le-or-lt, In, Place, place}
+use Rattle.bounds.proofs.Members.{test, clash, refuted, both-ways, and-l, and-r, and-both, bit, bit-mono, le-or-lt, In, place}
 use Rattle.bounds.proofs.Counting.{none, card-none, adding, count-none, count-adding, count-adding-other}
 use Rattle.bounds.proofs.Nesting.{has-facts, has-holds}
-use Rattle.bounds.proofs.Greedy.{Stopped, blocked, blocked-facts, blocked-holds, mark, among-facts, greedy, greedy-snoc, greedy-new}
+use Rattle.bounds.proofs.Greedy.{blocked, blocked-facts, blocked-holds, mark, among-facts, greedy, greedy-snoc, greedy-new}
 use Rattle.bounds.proofs.Paths.{path-bound, entry-step}
 use Rattle.bounds.proofs.Family.{upTo-mono, noRange, ranges-length, range-at, range-in, family-laminar}
 use Rattle.bounds.proofs.Holding.{full, holds-facts, from-holds}
@@ -245,14 +245,20 @@ pub write-first : (f : ℕ → ℕ) (xs : List ℕ) (v : ℕ) → 0 < length xs 
 unfolding tabulate
 write-first f xs v h e = rw (drop-set-lt 1 xs 0 v (omega arith)) (write-more f xs 0 v h e)
 
--- the largest number that passes, one number further
-pub largest-next : (t : ℕ) (p : ℕ → Bool) → largestUpTo (t + 1) p ≡ cond (p (t + 1)) (t + 1) (largestUpTo t p)
-unfolding largestUpTo
-largest-next t p = rw add-one
+-- The cut.
 
-pub largest-none : (p : ℕ → Bool) → largestUpTo 0 p ≡ 0
+-- the largest number up to t that passes
+abbrev pub cutUpTo : Family → List ℕ → ℕ → ℕ → ℕ → ℕ
+cutUpTo F path a b t = largestUpTo t (λ t. leb (entry F path t * b) (a * t))
+
+pub cut-start : (F : Family) (path : List ℕ) (a b : ℕ) → 0 ≡ cutUpTo F path a b 0
 unfolding largestUpTo
-largest-none p = refl
+cut-start F path a b = refl
+
+pub cut-next : (F : Family) (path : List ℕ) (a b t e cut r : ℕ) → e ≡ entry F path (t + 1) → cut ≡ cutUpTo F path a b t
+    → r ≡ cond (leb (e * b) (a * (t + 1))) (t + 1) cut → r ≡ cutUpTo F path a b (t + 1)
+unfolding largestUpTo
+cut-next F path a b t e cut r entered before h = h ∙ rw (entered, before, add-one)
 
 -- a product of two 16-bit numbers fits 32 bits
 pub product-fits : (a b : ℕ) → a < 65536 → b < 65536 → a * b < 4294967296

@@ -1,10 +1,10 @@
 -- What the private functions that check a path and walk along it promise each other.
-use Prim.Native.Nat.{ℕ, suc, _+_, _-_, _<_, _≤_}
+use Prim.Native.Nat.{ℕ, suc, _+_, _<_, _≤_}
 use mathlib.Core.Bool.{Bool, true, false, cond, _&&_}
 use mathlib.Core.List.{List, _++_}
 use mathlib.Core.Path.{_≡_}
 use lib.ListN.{length, getD}
-use lib.Dec.{eqb, leb}
+use lib.Dec.{leb}
 use Rattle.reader.specs.Lists.{someBelow, firstBelow}
 use Rattle.reader.specs.Family.{Family, familyOf, regionCount, region, leafOf}
 use Rattle.reader.specs.Causes.{Cause, firstCause, fileCauses}

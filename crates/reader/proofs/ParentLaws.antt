@@ -2,7 +2,6 @@
 use Prim.Native.Nat.{ℕ, zero, suc, _-_, _<_, _≤_}
 use native.Mathlib.Nat.{eq-or-lt-of-le}
 use native.Mathlib.Omega.{arith}
-use mathlib.Core.Bool.{Bool}
 use mathlib.Core.List.{List, _++_}
 use mathlib.Core.Path.{_≡_, sym, ap, subst, _∙_}
 use mathlib.Core.Logic.{⊎-elim}
@@ -17,9 +16,8 @@ use Rattle.reader.specs.WellFormed.{Ordered, NestedBelow, IsParent, Pare
 use Rattle.reader.proofs.Bools.{test}
 use Rattle.reader.proofs.Below.{below-suc}
 use Rattle.reader.proofs.Lists.{length-tabulate, getD-tabulate}
-use Rattle.reader.proofs.Climbing.{parent-is}
-use Rattle.reader.proofs.Accepting.{ordered-if-clear, accepted-family, accepted-header, few-regions}
-use Rattle.reader.proofs.Climbing.{nested-if-clear}
+use Rattle.reader.proofs.Climbing.{parent-is, nested-if-clear}
+use Rattle.reader.proofs.Accepting.{ordered-if-clear, accepted-family}
 
 -- c is the number of the last of the first n regions that ends with the k-th one or later
 record Reaching (F : Family) (k n c : ℕ) : Type 0 where

@@ -1,11 +1,11 @@
 -- What lies below the number is not counted yet; whatever the leaf, the rest of the chain holds it.
-use Prim.Native.Nat.{ℕ, _+_, _-_, _≤_, _<_}
+use Prim.Native.Nat.{ℕ, _-_, _≤_, _<_}
 use native.Mathlib.Omega.{arith}
 use mathlib.Core.Path.{_≡_, refl, _∙_}
 use lib.ListN.{length, getD, length-set}
 use lib.Seq.{getD-set-other}
 use denote.Ref.{now}
-use Rattle.reader.specs.Family.{Family, regionCount}
+use Rattle.reader.specs.Family.{Family}
 use Rattle.reader.specs.Climb.{Nested}
 use Rattle.bounds.specs.Walks.{LastHolding}
 use Rattle.bounds.proofs.Holding.{Chain, chain-starts, chain-next, CountedFrom, counted-starts, counted-steps, counted-ends}

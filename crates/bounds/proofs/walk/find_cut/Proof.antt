@@ -1,17 +1,15 @@
 -- The walk has come to place t: the cut is the largest number up to t that passes.
-use Prim.Native.Nat.{ℕ, _+_, _*_, _-_, _≤_, _<_}
+use Prim.Native.Nat.{_+_, _-_, _≤_, _<_}
 use native.Mathlib.Omega.{arith}
-use mathlib.Core.Bool.{cond}
-use mathlib.Core.Path.{_≡_, refl, sym, ap, _∙_}
+use mathlib.Core.Path.{_≡_, refl, sym, _∙_}
 use lib.ListN.{length, take, replicate, getD-replicate}
-use lib.Dec.{leb}
 use denote.Ref.{now}
 use Rattle.reader.specs.Family.{familyOf}
 use Rattle.bounds.specs.Ranges.{rangesOf}
-use Rattle.bounds.specs.Curves.{entry, largestUpTo, cutOf}
+use Rattle.bounds.specs.Curves.{entry, cutOf}
 use Rattle.bounds.proofs.Counting.{none}
 use Rattle.bounds.proofs.Greedy.{greedy}
-use Rattle.bounds.proofs.Walking.{Counts, counts-start, counts-most, entry-start, Next, next, largest-none, largest-next}
+use Rattle.bounds.proofs.Walking.{Counts, counts-start, counts-most, entry-start, Next, next, cutUpTo, cut-start, cut-next}
 use borrow.Author.Needs.{needs}
 use Rattle.bounds.proofs.walk.find_cut.Statement.{statement}
 use Rattle.bounds.proofs.walk.find_cut.Tie as tie
@@ -23,7 +21,7 @@ Inv-loop file parents path a b places counts₀ entry₀ cut₀ t₀ counts e cu
     × (length counts ≡ 8191)
     × (e ≤ t)
     × (e ≡ entry (familyOf file) path t)
-    × (cut ≡ largestUpTo t (λ t. leb (entry (familyOf file) path t * b) (a * t)))
+    × (cut ≡ cutUpTo (familyOf file) path a b t)
     × Counts (familyOf file) (greedy (familyOf file .peptides) (rangesOf (familyOf file)) none (take t path)) counts
 
 abbrev μ-loop : tie.MeasureT-loop
@@ -47,7 +45,7 @@ loop-holds c =
       search needs,
       omega arith,
       sym start,
-      sym (largest-none _),
+      cut-start _ _ _ _,
       counts-start (walk .well) (walk .different) (replicate 8191 0) (λ k l. getD-replicate 8191 k 0 0 (omega (arith, walk .nested .few))),
     )
 
@@ -101,10 +99,7 @@ loop-again c =
       c .before .before .before .mark-next .ensures .same ∙ inv .2,
       omega (arith, c .before .next-entry .ensures, n .small, inv .3),
       e,
-      c .later-cut .ensures
-          ∙ ap (λ (x : ℕ). cond (leb (x * b) (a * (t + 1))) (t + 1) (c .before .before .before .before .before .before .before .loop .cut)) e
-          ∙ ap (λ (x : ℕ). cond (leb (entry F path (t + 1) * b) (a * (t + 1))) (t + 1) x) (inv .5)
-          ∙ sym (largest-next t (λ t. leb (entry F path t * b) (a * t))),
+      cut-next F path a b t _ _ _ e (inv .5) (c .later-cut .ensures),
       n .counts,
     )
 

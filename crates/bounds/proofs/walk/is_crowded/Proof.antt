@@ -1,5 +1,5 @@
 -- The loop has passed only regions with room; whatever the leaf, the rest of the chain holds it.
-use Prim.Native.Nat.{ℕ, _-_, _≤_, _<_}
+use Prim.Native.Nat.{ℕ, _-_, _≤_}
 use native.Mathlib.Omega.{arith}
 use mathlib.Core.Path.{_≡_, sym}
 use lib.ListN.{getD}

@@ -1,9 +1,9 @@
 -- The walk has come to place t: the entries up to t and the marks before it are written, and the counts are those of the peptides marked.
-use Prim.Native.Nat.{ℕ, _+_, _-_, _≤_, _<_}
+use Prim.Native.Nat.{ℕ, _+_, _-_, _≤_}
 use native.Mathlib.Omega.{arith}
 use mathlib.Core.List.{List, _++_}
 use mathlib.Core.Path.{_≡_, refl, sym, ap, _∙_}
-use lib.ListN.{length, getD, take, drop, set, length-set, replicate, getD-replicate}
+use lib.ListN.{length, take, drop, set, length-set, replicate, getD-replicate}
 use lib.Seq.{drop-set-lt}
 use denote.Ref.{now}
 use Rattle.reader.specs.Lists.{tabulate}
