@@ -12,8 +12,8 @@ use Rattle.reader.specs.Causes.{Cause, fileCauses}
 use Rattle.bounds.specs.Ranges.{Range, card, rangeOf, rangesOf}
 use Rattle.bounds.specs.Bound.{total, value}
 use Rattle.bounds.specs.Selections.{cause14, selected, boundOf}
-use Rattle.bounds.specs.declared.rows.Cursor.{Cursor}
-use Rattle.bounds.specs.declared.rows.Counted.{Counted}
+use Rattle.bounds.specs.declared.cursor.Cursor.{Cursor}
+use Rattle.bounds.specs.declared.cursor.Counted.{Counted}
 
 -- the range of the k-th region, counted from 0
 unfoldable pub rangeAt : Family → ℕ → Range

@@ -1,4 +1,5 @@
 // The bound of a selection with its taken regions, the curve along a path with its marks, and the cut.
+mod cursor;
 mod rows;
 mod selection;
 mod taking;

@@ -19,9 +19,9 @@ use Rattle.bounds.proofs.rows.+region_value+row_value.Lts-region_value 
 use Rattle.bounds.proofs.rows.row_value.Reads as row-value
 use Rattle.bounds.proofs.rows.row_value.Kinds as row-value-kinds
 use Rattle.bounds.proofs.rows.+region_value+row_value.Lts-row_value as row-value-lts
-use Rattle.bounds.proofs.rows.begins_by.Reads as begins-by-reads
-use Rattle.bounds.proofs.rows.pass.Reads as pass-reads
-use Rattle.bounds.proofs.rows.pass_to_region.Reads as pass-to-region-reads
+use Rattle.bounds.proofs.cursor.begins_by.Reads as begins-by-reads
+use Rattle.bounds.proofs.cursor.pass.Reads as pass-reads
+use Rattle.bounds.proofs.cursor.pass_to_region.Reads as pass-to-region-reads
 use Rattle.bounds.proofs.rows.smaller.Reads as smaller-reads
 use Rattle.bounds.proofs.rows.+region_value+row_value.{statement}
 use Rattle.bounds.proofs.rows.+region_value+row_value.Tie.{close}
@@ -61,7 +61,7 @@ region-value-region-of-requires : (t : ℕ) → region-value-lts.Need-region-of-
 ) (region-value-at t) region-value.Post
 region-value-region-of-requires t c κs = search needs
 
-region-value-add-t16 : (t : ℕ) → region-value-lts.Need-add-t16 (
+region-value-add-region : (t : ℕ) → region-value-lts.Need-add-region (
   region-of-reads.Asked,
   region-of-reads.Learnt,
   row-value-below t,
@@ -69,7 +69,10 @@ region-value-add-t16 : (t : ℕ) → region-value-lts.Need-add-t16 (
   smaller-reads.Asked,
   smaller-reads.Learnt,
 ) (region-value-at t) region-value.Post
-region-value-add-t16 t c = let pre = c .before .before .before .before .before .before .before .before .pre .1 in let w = pre .ready .formed in omega (arith, pre .here, w .regions-most, w .leaves-most, w .peptides-most)
+region-value-add-region t c =
+    let pre = c .before .before .before .before .before .before .before .pre .1 in
+    let w = pre .ready .formed in
+    omega (arith, pre .here, w .regions-most, w .leaves-most, w .peptides-most)
 
 region-value-row-value-requires : (t : ℕ) → region-value-lts.Need-row-value-requires (
   region-of-reads.Asked,
@@ -146,13 +149,13 @@ region-value-returns t c =
     region-finishes _ _ _ _ _ _ pre (c .before .before .before .before .row-value .kept .1 .1 .0) (held-z _ _ (c .before .before .before .before .before .before .before .region-of .ensures)) (c .smaller .ensures) (c .before .before .before .before .row-value .ensures)
 
 abbrev row-value-Inv-loop : row-value-lts.InvT-loop
-row-value-Inv-loop file selection totals₀ last end total₀ at₀ totals total at =
+row-value-Inv-loop file selection totals₀ last total₀ at₀ totals total at =
     Along (familyOf file) selection (at₀ .region) (at₀ .peptide .0) at total
     × Stored (familyOf file) selection totals₀ totals (at₀ .region) (at .region)
     × (length totals ≡ length totals₀)
 
 abbrev row-value-μ-loop : row-value-lts.MeasureT-loop
-row-value-μ-loop file selection totals₀ last end total₀ at₀ totals total at = regionCount (familyOf file) - at .region
+row-value-μ-loop file selection totals₀ last total₀ at₀ totals total at = regionCount (familyOf file) - at .region
 
 row-value-loop-holds : (t : ℕ) → row-value-lts.Need-loop-holds (
   begins-by-reads.Asked,
@@ -300,7 +303,7 @@ row-value-pass-requires t c κs =
     let ends = leaf-before (pre .ready .formed) (c .before .before .before .before .before .before .args .from .region) (pre .here) in
     (pre .ready, (inv .0 .onLeaf, (omega (arith, inv .0 .here, pre .ends), omega (arith, ends .1, pre .ends))))
 
-row-value-add-t22 : (t : ℕ) → row-value-lts.Need-add-t22 (
+row-value-add-count : (t : ℕ) → row-value-lts.Need-add-count (
   begins-by-reads.Asked,
   begins-by-reads.Learnt,
   pass-to-region-reads.Asked,
@@ -310,7 +313,7 @@ row-value-add-t22 : (t : ℕ) → row-value-lts.Need-add-t22 (
   pass-reads.Asked,
   pass-reads.Learnt,
 ) (row-value-at t) row-value.Post row-value-Inv-loop row-value-μ-loop
-row-value-add-t22 t c =
+row-value-add-count t c =
     let pre = c .before .before .before .before .before .before .before .before .pre .1 in
     let w = pre .ready .formed in
     let ends = leaf-before w (c .before .before .before .before .before .before .before .before .args .from .region) (pre .here) in
@@ -356,7 +359,7 @@ pub +region-value+row-value-spec : {M : Type 1} → statement M
     (region-value-at t)
     region-value.Post
     (region-value-region-of-requires t)
-    (region-value-add-t16 t)
+    (region-value-add-region t)
     (region-value-row-value-requires t)
     (region-value-cast-totals t)
     (region-value-mul-totals t)
@@ -387,6 +390,6 @@ pub +region-value+row-value-spec : {M : Type 1} → statement M
     (row-value-loop-less t)
     (row-value-loop-again t)
     (row-value-pass-requires t)
-    (row-value-add-t22 t)
+    (row-value-add-count t)
     (row-value-same-length t)
     (row-value-returns t)
