@@ -1,13 +1,16 @@
 -- What the calls with a path answer and write, by the first cause that holds.
 use Prim.Native.Nat.{ℕ, _+_}
-use mathlib.Core.Bool.{true, false, _||_}
+use mathlib.Core.Bool.{Bool, true, false, not, _||_}
 use mathlib.Core.List.{List, [], _∷_, _++_, append-assoc}
 use mathlib.Core.Path.{_≡_, refl, sym, ap, _∙_}
 use native.Mathlib.Omega.{arith}
 use lib.ListN.{length, drop}
+use lib.Dec.{eqb}
+use borrow.Author.Tests.{eq-eqb, ne-eqb}
 use Rattle.reader.specs.Family.{Family, familyOf}
 use Rattle.reader.specs.Causes.{Cause, firstCause, headerCauses, familyCauses, fileCauses}
 use Rattle.reader.specs.Calls.{Report, written}
+use Rattle.reader.proofs.Bools.{not-passes, not-fails}
 use Rattle.reader.proofs.Lists.{length-tabulate}
 use Rattle.reader.proofs.First.{Numbered, first-holds, first-fails, join-clear, join-holds, answers, declines, writes, leaves-unchanged}
 use Rattle.bounds.specs.Curves.{curveValues, curveMarks, cutOf, entry, markAt, cause15}
@@ -69,25 +72,27 @@ module _ (file path : List ℕ) (c : Cause) where
 -- The curve.
 
 module _ (file path values marks : List ℕ) where
-  -- the answer, and what stands in the lent lists afterwards
-  abbrev pub CurveDone : Report → List ℕ → List ℕ → Type 0
-  CurveDone r v w =
+  -- the answer, what stands in the lent lists afterwards, and whether the answer is a refusal
+  abbrev pub CurveDone : Report → List ℕ → List ℕ → Bool → Type 0
+  CurveDone r v w declined =
       Answers (curveCauses file path values marks) path [] r
       × ((v ≡ written (curveCauses file path values marks) (curveValues (familyOf file) path) values)
-      × (w ≡ written (curveCauses file path values marks) (curveMarks (familyOf file) path) marks))
+      × ((w ≡ written (curveCauses file path values marks) (curveMarks (familyOf file) path) marks)
+      × (declined ≡ not (eqb (firstCause (curveCauses file path values marks)) 0))))
 
   curve-stops : (r : Report) → Answers (curveCauses file path values marks) path [] r → (firstCause (curveCauses file path values marks) ≡ 0 → ⊥)
-      → CurveDone r values marks
+      → CurveDone r values marks true
   curve-stops r a some =
-      (a, (sym (leaves-unchanged (curveCauses file path values marks) some _ values), sym (leaves-unchanged (curveCauses file path values marks) some _ marks)))
+      let cs : List Cause = curveCauses file path values marks in
+      (a, (sym (leaves-unchanged cs some _ values), (sym (leaves-unchanged cs some _ marks), sym (not-passes (eqb (firstCause cs) 0) (ne-eqb (firstCause cs) 0 some)))))
 
-  pub curve-declines : (n : ℕ) → n ≡ firstCause (inputCauses file path) → (n ≡ 0 → ⊥) → (n ≡ 13 → ⊥) → CurveDone (record { number = n; values = [] }) values marks
+  pub curve-declines : (n : ℕ) → n ≡ firstCause (inputCauses file path) → (n ≡ 0 → ⊥) → (n ≡ 13 → ⊥) → CurveDone (record { number = n; values = [] }) values marks true
   unfolding curveCauses
   curve-declines n e some other =
       let first = e ∙ sym (joined-input file path _ (λ z. some (e ∙ z))) in
       curve-stops _ (declines-with _ path [] n first some other) (λ z. some (first ∙ z))
 
-  pub curve-repeats : (p : ℕ) → firstCause (inputCauses file path) ≡ 13 → RepeatedAt path p → CurveDone (record { number = 13; values = p ∷ [] }) values marks
+  pub curve-repeats : (p : ℕ) → firstCause (inputCauses file path) ≡ 13 → RepeatedAt path p → CurveDone (record { number = 13; values = p ∷ [] }) values marks true
   unfolding curveCauses
   curve-repeats p e r =
       let first = joined-input file path _ (λ z. omega arith) ∙ e in
@@ -95,7 +100,7 @@ module _ (file path values marks : List ℕ) where
 
   -- values under T + 1, or marks under T
   pub curve-short : firstCause (inputCauses file path) ≡ 0 → (short (length path + 1) values || short (length path) marks) ≡ true
-      → CurveDone (record { number = 16; values = [] }) values marks
+      → CurveDone (record { number = 16; values = [] }) values marks true
   unfolding curveCauses
   curve-short e s =
       let first = sym (joined-holds file path _ e s) in
@@ -103,7 +108,7 @@ module _ (file path values marks : List ℕ) where
 
   pub curve-writes : (v w : List ℕ) → firstCause (inputCauses file path) ≡ 0 → (short (length path + 1) values || short (length path) marks) ≡ false
       → v ≡ curveValues (familyOf file) path ++ drop (length path + 1) values → w ≡ curveMarks (familyOf file) path ++ drop (length path) marks
-      → CurveDone (record { number = 0; values = [] }) v w
+      → CurveDone (record { number = 0; values = [] }) v w false
   unfolding curveCauses curveValues curveMarks
   curve-writes v w e s ev ew =
       let F : Family = familyOf file in
@@ -111,7 +116,10 @@ module _ (file path values marks : List ℕ) where
         answers-with _ path [] first,
         (
           ev ∙ rw (writes _ first (curveValues F path) values, length-tabulate (length path + 1) (entry F path)),
-          ew ∙ rw (writes _ first (curveMarks F path) marks, length-tabulate (length path) (λ i. markAt F path (i + 1))),
+          (
+            ew ∙ rw (writes _ first (curveMarks F path) marks, length-tabulate (length path) (λ i. markAt F path (i + 1))),
+            sym (not-fails _ (eq-eqb _ 0 first)),
+          ),
         ),
       )
 

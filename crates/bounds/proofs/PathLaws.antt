@@ -18,7 +18,7 @@ use Rattle.reader.specs.WellFormed.{ParentsBelow}
 use Rattle.reader.proofs.Bools.{or-fails-l, or-fails-r}
 use Rattle.reader.proofs.Below.{none-at, none-below, first-at, first-none}
 use Rattle.reader.proofs.First.{Numbered, head-clear, join-clear, join-holds}
-use Rattle.reader.proofs.Accepting.{well-formed, accepted-header, few-regions}
+use Rattle.reader.proofs.Accepting.{well-formed, accepted-header, few-regions, file-numbered}
 use Rattle.bounds.specs.Curves.{cause11, cause12, repeated, cause13}
 use Rattle.bounds.specs.Calls.{pathCauses}
 use Rattle.bounds.specs.Paths.{IsPath}
@@ -194,10 +194,6 @@ accepted-path m path h =
     is-path m path (rw (a .0, b .0)) (c .0)
 
 -- The first cause of a family and a path.
-
-file-numbered : (s : List ℕ) → Numbered (fileCauses s)
-unfolding fileCauses headerCauses familyCauses
-file-numbered s = omega arith
 
 -- no number of the causes is over n
 abbrev NumberedUpTo : ℕ → List Cause → Type 0

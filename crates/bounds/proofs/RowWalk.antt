@@ -17,8 +17,8 @@ use Rattle.reader.proofs.Bools.{and-l, and-r, and-fails}
 use Rattle.bounds.specs.Ranges.{Range, card, count, rangesOf}
 use Rattle.bounds.specs.Bound.{total, value}
 use Rattle.bounds.specs.Selections.{selected, boundOf}
-use Rattle.bounds.specs.declared.rows.Cursor.{Cursor}
-use Rattle.bounds.specs.declared.rows.Counted.{Counted}
+use Rattle.bounds.specs.declared.cursor.Cursor.{Cursor}
+use Rattle.bounds.specs.declared.cursor.Counted.{Counted}
 use Rattle.bounds.specs.Rows.{rangeAt, rowRange, leafBefore, lastLeaf, beginsBy, Ready, OnLeaf, Passed, Walked, Stored, RegionWalked, RowWalked, RegionReady, RowReady, LineWalked}
 use Rattle.reader.proofs.Walk.{nothing-before}
 use Rattle.bounds.proofs.Members.{le-or-lt}

@@ -4,7 +4,7 @@ use native.Mathlib.Numerals.{add-one}
 use native.Mathlib.Omega.{arith}
 use mathlib.Core.Bool.{Bool, true, false, not}
 use mathlib.Core.List.{List}
-use mathlib.Core.Path.{_≡_, refl}
+use mathlib.Core.Path.{_≡_}
 use lib.ListN.{length, getD}
 use lib.Dec.{eqb, ltb}
 use borrow.Author.Tests.{eq-eqb, ne-eqb, eqb-true, lt-ltb, not-false}
@@ -12,7 +12,7 @@ use Rattle.reader.specs.Lists.{someBelow}
 use Rattle.reader.proofs.Bools.{or-r, or-fails-l}
 use Rattle.reader.proofs.Below.{some-at}
 use Rattle.bounds.specs.Ranges.{Peptides, card}
-use Rattle.bounds.specs.Selections.{selected, cause14}
+use Rattle.bounds.specs.Selections.{cause14}
 use Rattle.bounds.proofs.Members.{bit}
 
 -- Cause 14.
@@ -42,11 +42,6 @@ module _ (m : ℕ) (selection : List ℕ) where
   right-length h =
       eqb-true (length selection) m
       (not-false (eqb (length selection) m) (or-fails-l (not (eqb (length selection) m)) (someBelow (length selection) (overOne selection)) h))
-
--- The byte of peptide i + 1 stands at place i.
-pub selected-at : (selection : List ℕ) (i : ℕ) → selected selection (suc i) ≡ eqb (getD selection i 0) 1
-unfolding selected
-selected-at selection i = refl
 
 -- Passing one more peptide.
 pub card-next : (n : ℕ) (X : Peptides) → card (n + 1) X ≡ card n X + bit (X (suc n))

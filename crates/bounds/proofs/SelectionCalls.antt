@@ -12,16 +12,12 @@ use Rattle.reader.specs.Family.{familyOf, regionCount}
 use Rattle.reader.specs.Causes.{firstCause, headerCauses, familyCauses, fileCauses, Accepted}
 use Rattle.reader.specs.Calls.{answer, written}
 use Rattle.reader.proofs.First.{Numbered, head-clear, join-clear, join-holds, clear-left, clear-right, answers, declines, writes, leaves-unchanged}
-use Rattle.reader.proofs.Accepting.{well-formed}
+use Rattle.reader.proofs.Accepting.{well-formed, file-numbered}
 use Rattle.bounds.specs.Selections.{cause14, boundOf}
 use Rattle.bounds.specs.Rows.{Ready, causesWith}
 use Rattle.bounds.specs.declared.Bounded.the-variants as bounded
 use Rattle.bounds.specs.Calls.{reportBound, short, selectionCauses}
 use Rattle.bounds.proofs.Selecting.{right-length}
-
-pub file-numbered : (s : List ℕ) → Numbered (fileCauses s)
-unfolding fileCauses headerCauses familyCauses
-file-numbered s = (omega arith, (omega arith, (omega arith, (omega arith, (omega arith, (omega arith, (omega arith, (omega arith, (omega arith, (omega arith, tt))))))))))
 
 module _ (file selection : List ℕ) (room : ℕ) where
   -- The first cause, in the order in which they are tried.

@@ -1,4 +1,4 @@
--- What the private functions that compute inside totals promise each other.
+-- What the private functions that judge a selection and walk along its rows promise each other.
 use Prim.Native.Nat.{ℕ, zero, suc, _+_, _-_, _≤_, _<_}
 use mathlib.Core.Bool.{Bool, _&&_}
 use mathlib.Core.List.{List, [], _∷_, _++_}
@@ -12,8 +12,16 @@ use Rattle.reader.specs.Causes.{Cause, fileCauses}
 use Rattle.bounds.specs.Ranges.{Range, card, rangeOf, rangesOf}
 use Rattle.bounds.specs.Bound.{total, value}
 use Rattle.bounds.specs.Selections.{cause14, selected, boundOf}
-use Rattle.bounds.specs.declared.rows.Cursor.{Cursor}
-use Rattle.bounds.specs.declared.rows.Counted.{Counted}
+use Rattle.bounds.specs.declared.cursor.Cursor.{Cursor}
+use Rattle.bounds.specs.declared.cursor.Counted.{Counted}
+
+-- the causes of a call with a selection and an output of so many places
+unfoldable pub causesWith : List ℕ → List ℕ → ℕ → List Cause
+causesWith file selection room =
+    fileCauses file
+    ++ (record { number = 14; holds = cause14 (familyOf file .peptides) selection }
+    ∷ record { number = 16; holds = ltb room (regionCount (familyOf file)) }
+    ∷ [])
 
 -- the range of the k-th region, counted from 0
 unfoldable pub rangeAt : Family → ℕ → Range
@@ -58,7 +66,24 @@ pub record Passed (F : Family) (selection : List ℕ) (c : Cursor) (last : ℕ) 
   pub peptide : r .at .peptide .0 ≡ peptidesUpTo F last
   pub counted : r .count + card (c .peptide .0) (selected selection) ≡ card (r .at .peptide .0) (selected selection)
 
--- where a row, or a region, that begins at region `from` and ends with the leaf `last` is walked, up to region `next`
+-- the cursor stands before the region's first leaf
+pub record RegionReady (F : Family) (selection totals : List ℕ) (c : Cursor) : Type 0 where
+  pub ready : Ready F selection
+  pub room : regionCount F ≤ length totals
+  pub here : c .region < regionCount F
+  pub leaf : c .leaf .0 ≡ region F (c .region) .first - 1
+  pub peptide : c .peptide .0 ≡ peptidesUpTo F (c .leaf .0)
+
+-- the cursor stands before the first leaf of the row that begins at its region
+pub record RowReady (F : Family) (selection totals : List ℕ) (c : Cursor) (last : ℕ) : Type 0 where
+  pub ready : Ready F selection
+  pub room : regionCount F ≤ length totals
+  pub here : c .region ≤ regionCount F
+  pub leaf : c .leaf .0 ≡ leafBefore F (c .region)
+  pub peptide : c .peptide .0 ≡ peptidesUpTo F (c .leaf .0)
+  pub ends : last ≡ lastLeaf F (c .region)
+
+-- the regions `from` to `next` - 1 are those from `from` on that begin at the leaf `last` or before
 pub record Walked (F : Family) (from last next : ℕ) : Type 0 where
   pub forward : from ≤ next
   pub most : next ≤ regionCount F
@@ -70,7 +95,7 @@ pub record Stored (F : Family) (selection old new : List ℕ) (from next : ℕ) 
   pub totals : (k : ℕ) → from ≤ k → k < next → getD new k 0 ≡ total (F .peptides) (rangesOf F) (selected selection) (rangeAt F k)
   pub others : (k : ℕ) → (k < from) ⊎ (next ≤ k) → getD new k 0 ≡ getD old k 0
 
--- the k-th region is walked: its value, and the cursor after its last leaf and before the first region that is not inside it
+-- the cursor's region is walked: its value, and the cursor after its last leaf and before the first region that is not inside it
 pub record RegionWalked (F : Family) (selection old new : List ℕ) (c : Cursor) (r : Counted) : Type 0 where
   pub value : r .count ≡ value (F .peptides) (rangesOf F) (selected selection) (rangeAt F (c .region))
   pub few : r .count + card (c .peptide .0) (selected selection) ≤ card (r .at .peptide .0) (selected selection)
@@ -93,27 +118,3 @@ pub record RowWalked (F : Family) (selection old new : List ℕ) (c : Cursor) (r
 pub record LineWalked (F : Family) (selection old new : List ℕ) (v : ℕ) : Type 0 where
   pub bound : v ≡ boundOf F selection
   pub stored : Stored F selection old new 0 (regionCount F)
-
--- what a region's call, and a row's, asks of its cursor
-pub record RegionReady (F : Family) (selection totals : List ℕ) (c : Cursor) : Type 0 where
-  pub ready : Ready F selection
-  pub room : regionCount F ≤ length totals
-  pub here : c .region < regionCount F
-  pub leaf : c .leaf .0 ≡ region F (c .region) .first - 1
-  pub peptide : c .peptide .0 ≡ peptidesUpTo F (c .leaf .0)
-
-pub record RowReady (F : Family) (selection totals : List ℕ) (c : Cursor) (last : ℕ) : Type 0 where
-  pub ready : Ready F selection
-  pub room : regionCount F ≤ length totals
-  pub here : c .region ≤ regionCount F
-  pub leaf : c .leaf .0 ≡ leafBefore F (c .region)
-  pub peptide : c .peptide .0 ≡ peptidesUpTo F (c .leaf .0)
-  pub ends : last ≡ lastLeaf F (c .region)
-
--- the causes of a call with a selection and an output of so many places
-unfoldable pub causesWith : List ℕ → List ℕ → ℕ → List Cause
-causesWith file selection room =
-    fileCauses file
-    ++ (record { number = 14; holds = cause14 (familyOf file .peptides) selection }
-    ∷ record { number = 16; holds = ltb room (regionCount (familyOf file)) }
-    ∷ [])

@@ -1,4 +1,5 @@
 // The bound of a selection with its taken regions, the curve along a path with its marks, and the cut.
+mod cursor;
 mod path;
 mod rows;
 mod selection;
@@ -14,11 +15,14 @@ use walk::find_cut;
 use walk::write_curve;
 ghost use mathlib.Core.Path.{_≡_};
 ghost use mathlib.Core.List.{[], _∷_};
+ghost use mathlib.Core.Bool.{not};
+ghost use lib.Dec.{eqb};
+ghost use Rattle.reader.specs.Causes.{firstCause};
 ghost use Rattle.reader.specs.Family.{familyOf};
 ghost use Rattle.reader.specs.Calls.{answer, written};
 ghost use Rattle.bounds.specs.Selections.{boundOf, takenOf, totalsOf};
 ghost use Rattle.bounds.specs.Curves.{curveValues, curveMarks, cutOf};
-ghost use Rattle.bounds.specs.Calls.{Answers, selectionCauses, reportBound, curveCauses, reportCurve, cutCauses, reportCut};
+ghost use Rattle.bounds.specs.Calls.{Answers, selectionCauses, reportBound, curveCauses, reportCurve, declinedCurve, cutCauses, reportCut};
 
 // A bound, or the number of the first cause that holds.
 pub enum Bounded {
@@ -74,6 +78,7 @@ pub fn curve(file: &[u8], path: &[u16], values: &mut [u16], marks: &mut [u8]) ->
     ensures { λ r. ⌜ Answers (curveCauses (now (file .entry)) (now (path .entry)) (now (values .entry)) (now (marks .entry))) (now (path .entry)) [] (reportCurve r) ⌝ }
     ensures { λ _. ⌜ now (values .exit) ≡ written (curveCauses (now (file .entry)) (now (path .entry)) (now (values .entry)) (now (marks .entry))) (curveValues (familyOf (now (file .entry))) (now (path .entry))) (now (values .entry)) ⌝ }
     ensures { λ _. ⌜ now (marks .exit) ≡ written (curveCauses (now (file .entry)) (now (path .entry)) (now (values .entry)) (now (marks .entry))) (curveMarks (familyOf (now (file .entry))) (now (path .entry))) (now (marks .entry)) ⌝ }
+    ensures { λ r. ⌜ declinedCurve r ≡ not (eqb (firstCause (curveCauses (now (file .entry)) (now (path .entry)) (now (values .entry)) (now (marks .entry)))) 0) ⌝ }
 {
     let mut parents = [0u16; 8191];
     match admit(file, path, &mut parents) {

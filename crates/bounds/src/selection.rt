@@ -28,12 +28,13 @@ pub(crate) fn bad_selection(selection: &[u8], m: u16) -> bool
     false
 }
 
-// 1 if the peptide after the i-th is selected, else 0.
-fn bit_after(selection: &[u8], i: u16) -> u16
-    requires { ⌜ i < length (now selection) ⌝ }
-    ensures { λ r. ⌜ r ≡ cond (selected (now (selection .entry)) (suc i)) 1 0 ⌝ }
+// 1 if the peptide after the one named is selected, else 0.
+fn bit_after(selection: &[u8], passed: Peptide) -> u16
+    requires { ⌜ passed .0 < length (now selection) ⌝ }
+    ensures { λ r. ⌜ r ≡ cond (selected (now (selection .entry)) (suc (passed .0))) 1 0 ⌝ }
 {
-    if selection[i as usize] == 1 { 1 } else { 0 }
+    let i = passed.0 as usize;
+    if selection[i] == 1 { 1 } else { 0 }
 }
 
 // How many peptides after the first one named, and up to the second, are selected.
@@ -45,7 +46,7 @@ pub(crate) fn selected_between(selection: &[u8], after: Peptide, upto: Peptide) 
     let mut i = after.0;
     let mut count = 0;
     while i < end {
-        count += bit_after(selection, i);
+        count += bit_after(selection, Peptide(i));
         i += 1;
     }
     count

@@ -3,13 +3,12 @@
 use reader::bytes::number_at;
 use reader::family::Leaf;
 use reader::family::region_of;
-ghost use mathlib.Core.Bool.{cond};
 ghost use mathlib.Core.List.{_++_};
 ghost use mathlib.Core.Path.{_≡_};
 ghost use Prim.Native.Nat.{_≤_};
 ghost use lib.ListN.{length, drop};
-ghost use Rattle.reader.specs.Family.{familyOf, regionCount, region};
-ghost use Rattle.bounds.specs.Takes.{takes, takenAlong};
+ghost use Rattle.reader.specs.Family.{familyOf, regionCount};
+ghost use Rattle.bounds.specs.Takes.{Stepped, takenAlong};
 
 // A region's byte, and the last leaf of the latest taken region.
 struct Step {
@@ -19,7 +18,7 @@ struct Step {
 
 // Takes the k-th region if its total is over its z and it begins after the latest taken region.
 fn take(file: &[u8], k: u16, total: u16, until: Leaf) -> Step
-    ensures { λ r. ⌜ (r .byte ≡ cond (takes (familyOf (now (file .entry))) k total (until .0)) 1 0) × (r .until .0 ≡ cond (takes (familyOf (now (file .entry))) k total (until .0)) (region (familyOf (now (file .entry))) k .last) (until .0)) ⌝ }
+    ensures { λ r. ⌜ Stepped (familyOf (now (file .entry))) k total (until .0) r ⌝ }
 {
     let r = region_of(file, k);
     let first = r.first.0;

@@ -21,10 +21,10 @@ appends-byte b at x h = record { ends = refl; text = rw add-one (take-suc-set b 
 
 pub appends-then : {b m a : List ℕ} {at e r : ℕ} {x y : List ℕ} → Appends b at m e x → Appends m e a r y → Appends b at a r (x ++ y)
 appends-then {b} {m} {a} {at} {e} {r} {x} {y} p q =
-    record
-    { ends = omega (arith, p .ends, q .ends, length-append x y)
-    ; text = q .text ∙ ap (λ (l : List ℕ). l ++ y) (p .text) ∙ append-assoc (take at b) x y
-    ; fits = q .fits
+    record {
+      ends = omega (arith, p .ends, q .ends, length-append x y);
+      text = q .text ∙ ap (λ (l : List ℕ). l ++ y) (p .text) ∙ append-assoc (take at b) x y;
+      fits = q .fits;
     }
 
 pub digit-short : (place n : ℕ) → length (digitAt place n) ≤ 1
@@ -38,9 +38,17 @@ decimal-short n =
     let d = digitAt 10 n ++ last in
     let c = digitAt 100 n ++ d in
     let b = digitAt 1000 n ++ c in
-    omega
-    (arith, length-append (digitAt 10000 n) b, length-append (digitAt 1000 n) c, length-append (digitAt 100 n) d, length-append (digitAt 10 n) last,
-    digit-short 10000 n, digit-short 1000 n, digit-short 100 n, digit-short 10 n)
+    omega (
+      arith,
+      length-append (digitAt 10000 n) b,
+      length-append (digitAt 1000 n) c,
+      length-append (digitAt 100 n) d,
+      length-append (digitAt 10 n) last,
+      digit-short 10000 n,
+      digit-short 1000 n,
+      digit-short 100 n,
+      digit-short 10 n,
+    )
 
 pub field-short : (n after : ℕ) → length (fieldOf n after) ≤ 6
 unfolding fieldOf
@@ -49,9 +57,16 @@ field-short n after = omega (arith, length-append (decimal n) (after ∷ []), de
 pub line-short : (a b c d : ℕ) → length (lineOf a b c d) ≤ 24
 unfolding lineOf
 line-short a b c d =
-    omega
-    (arith, length-append (fieldOf a 32) (fieldOf b 32 ++ (fieldOf c 32 ++ fieldOf d 10)), length-append (fieldOf b 32) (fieldOf c 32 ++ fieldOf d 10),
-    length-append (fieldOf c 32) (fieldOf d 10), field-short a 32, field-short b 32, field-short c 32, field-short d 10)
+    omega (
+      arith,
+      length-append (fieldOf a 32) (fieldOf b 32 ++ (fieldOf c 32 ++ fieldOf d 10)),
+      length-append (fieldOf b 32) (fieldOf c 32 ++ fieldOf d 10),
+      length-append (fieldOf c 32) (fieldOf d 10),
+      field-short a 32,
+      field-short b 32,
+      field-short c 32,
+      field-short d 10,
+    )
 
 -- one more of the bytes that a loop appends
 pub appends-more :

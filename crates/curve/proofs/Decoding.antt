@@ -30,5 +30,5 @@ path-held bytes l h room =
     let f : ℕ → ℕ = λ i. numberAt bytes (2 * i) in
     ext-getD 0 (take n l) (tabulate n f) (length-take-le n l room ∙ sym (length-tabulate n f))
     (λ k lk.
-      let k-less : k < n = omega (arith, length-take-le n l room) in
-      getD-take n l k 0 k-less ∙ h k k-less ∙ sym (getD-tabulate n f 0 k k-less))
+    let k-less : k < n = omega (arith, length-take-le n l room) in
+    getD-take n l k 0 k-less ∙ h k k-less ∙ sym (getD-tabulate n f 0 k k-less))

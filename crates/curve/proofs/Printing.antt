@@ -47,12 +47,12 @@ module _ (s bytes : List ℕ) where
       let last : Cause = record { number = 16; holds = short (length path + 1) values || short (length path) marks } in
       ⊎-elim
       (λ z.
-        let few = head-clear (record { number = 11; holds = cause11 m path }) _ (omega arith) z in
-        let t : length path ≤ m = ltb-false m (length path) (few .0) in
-        let most = peptides-counted (familyOf s) (accepted-header s a .no2) in
-        join-clear cs (last ∷ []) (omega arith) z
-        ∙ first-fails last [] (or-neither (short (length path + 1) values) (short (length path) marks) (le-ltb (length values) (length path + 1) (omega arith)) (le-ltb (length marks) (length path) (omega arith)))
-        ∙ sym z)
+      let few = head-clear (record { number = 11; holds = cause11 m path }) _ (omega arith) z in
+      let t : length path ≤ m = ltb-false m (length path) (few .0) in
+      let most = peptides-counted (familyOf s) (accepted-header s a .no2) in
+      join-clear cs (last ∷ []) (omega arith) z
+      ∙ first-fails last [] (or-neither (short (length path + 1) values) (short (length path) marks) (le-ltb (length values) (length path + 1) (omega arith)) (le-ltb (length marks) (length path) (omega arith)))
+      ∙ sym z)
       (λ r. join-holds cs (last ∷ []) r)
       (none-or-some cs)
 

@@ -78,7 +78,14 @@ fn put_row(out: &mut [u8], at: usize, t: usize, path: &[u16], values: &[u16], ma
     if t == 0 {
         put_line(out, at, 0, 0, values[0], 0)
     } else {
-        put_line(out, at, t as u16, path[t - 1], values[t], marks[t - 1] as u16)
+        put_line(
+            out,
+            at,
+            t as u16,
+            path[t - 1],
+            values[t],
+            marks[t - 1] as u16,
+        )
     }
 }
 

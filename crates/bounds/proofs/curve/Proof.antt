@@ -7,7 +7,7 @@ use borrow.Author.Tests.{lt-ltb, le-ltb}
 use denote.Ref.{now}
 use Rattle.reader.proofs.Bools.{or-l, or-r, or-neither}
 use Rattle.bounds.specs.declared.path.Admitted.the-variants.{Yes}
-use Rattle.bounds.specs.Calls.{short, reportCurve}
+use Rattle.bounds.specs.Calls.{short, reportCurve, declinedCurve}
 use Rattle.bounds.specs.Walks.{Admission}
 use Rattle.bounds.proofs.PathLaws.{repeat-is}
 use Rattle.bounds.proofs.Answering.{curve-declines, curve-repeats, curve-short, curve-writes}
@@ -28,13 +28,13 @@ enum-told : tie.Need-enum-told
 enum-told c = search needs
 
 returns : tie.Need-returns
-unfolding reportCurve short
+unfolding reportCurve declinedCurve short
 returns c =
     let a = c .before .before .before .before .before .before .before .before .before .before .args in
     curve-short _ _ _ _ (admitted (c .before) .0) (or-l (short (length (now (a .path)) + 1) (now (a .values))) _ (lt-ltb (length (now (a .values))) (length (now (a .path)) + 1) (omega (arith, c .if1 .taken))))
 
 returns-2 : tie.Need-returns-2
-unfolding reportCurve short
+unfolding reportCurve declinedCurve short
 returns-2 c =
     let a = c .before .before .before .before .before .before .before .before .before .before .before .args in
     curve-short _ _ _ _ (admitted (c .before .before) .0) (or-r (short (length (now (a .path)) + 1) (now (a .values))) _ (lt-ltb (length (now (a .marks))) (length (now (a .path))) (c .if2 .taken)))
@@ -58,7 +58,7 @@ same-length-2 : tie.Need-same-length-2
 same-length-2 c = search needs
 
 returns-3 : tie.Need-returns-3
-unfolding reportCurve short
+unfolding reportCurve declinedCurve short
 returns-3 c =
     let a = c .before .before .before .before .before .before .before .before .before .before .before .before .before .before .before .before .before .before .before .args in
     let v = length (now (a .values)) in
@@ -68,13 +68,13 @@ returns-3 c =
     (c .before .before .before .before .write-curve .ensures .0) (c .before .before .before .before .write-curve .ensures .1)
 
 returns-4 : tie.Need-returns-4
-unfolding reportCurve
+unfolding reportCurve declinedCurve
 returns-4 c =
     let h = subst (Admission (now (c .before .before .before .before .before .before .before .before .before .before .args .file)) (now (c .before .before .before .before .before .before .before .before .before .before .args .path)) (c .before .before .before .before .admit .last .1 .1 .0)) (c .before .number .given .1) (c .before .before .before .before .admit .ensures) in
     curve-declines _ _ _ _ _ (h .0) (h .1) (h .2)
 
 returns-5 : tie.Need-returns-5
-unfolding reportCurve
+unfolding reportCurve declinedCurve
 returns-5 c =
     let h = subst (Admission (now (c .before .before .before .before .before .before .before .before .before .before .args .file)) (now (c .before .before .before .before .before .before .before .before .before .before .args .path)) (c .before .before .before .before .admit .last .1 .1 .0)) (c .before .place .given .1) (c .before .before .before .before .admit .ensures) in
     curve-repeats _ _ _ _ _ (h .0) (repeat-is _ _ (h .1) (h .2))

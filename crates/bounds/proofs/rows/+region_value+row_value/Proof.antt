@@ -19,9 +19,9 @@ use Rattle.bounds.proofs.rows.+region_value+row_value.Lts-region_value 
 use Rattle.bounds.proofs.rows.row_value.Reads as row-value
 use Rattle.bounds.proofs.rows.row_value.Kinds as row-value-kinds
 use Rattle.bounds.proofs.rows.+region_value+row_value.Lts-row_value as row-value-lts
-use Rattle.bounds.proofs.rows.begins_by.Reads as begins-by-reads
-use Rattle.bounds.proofs.rows.pass.Reads as pass-reads
-use Rattle.bounds.proofs.rows.pass_to_region.Reads as pass-to-region-reads
+use Rattle.bounds.proofs.cursor.begins_by.Reads as begins-by-reads
+use Rattle.bounds.proofs.cursor.pass.Reads as pass-reads
+use Rattle.bounds.proofs.cursor.pass_to_region.Reads as pass-to-region-reads
 use Rattle.bounds.proofs.rows.smaller.Reads as smaller-reads
 use Rattle.bounds.proofs.rows.+region_value+row_value.{statement}
 use Rattle.bounds.proofs.rows.+region_value+row_value.Tie.{close}
@@ -32,6 +32,7 @@ abbrev μ-region-value : Measures 3 region-value-kinds.ps ℕ
 abbrev μ-row-value : Measures 3 row-value-kinds.ps ℕ
 μ-row-value κs a = 2 * (regionCount (familyOf (now (a .0))) - a .1 .1 .1 .1 .0 .region) + 1
 
+-- what each of them is given at the measure t, and what a call of it asks below t
 abbrev region-value-at : ℕ → In 3 region-value-kinds.ps
 region-value-at t =
     and 3 region-value-kinds.ps (is 3 region-value-kinds.ps μ-region-value t) region-value.Pre
@@ -51,159 +52,82 @@ abbrev row-value-below : ℕ → In 3 row-value-kinds.ps
 row-value-below t =
     and 3 row-value-kinds.ps (falls 3 row-value-kinds.ps _<_ μ-row-value t) row-value.Pre
 
-region-value-region-of-requires : (t : ℕ) → region-value-lts.Need-region-of-requires (
-  region-of-reads.Asked,
-  region-of-reads.Learnt,
-  row-value-below t,
-  row-value.Post,
-  smaller-reads.Asked,
-  smaller-reads.Learnt,
-) (region-value-at t) region-value.Post
+-- what the calls in each of them ask and promise
+abbrev region-value-claims : ℕ → region-value-lts.Claims
+region-value-claims t =
+    (region-of-reads.Asked, region-of-reads.Learnt, row-value-below t, row-value.Post, smaller-reads.Asked, smaller-reads.Learnt)
+
+abbrev row-value-claims : ℕ → row-value-lts.Claims
+row-value-claims t = (
+  begins-by-reads.Asked,
+  begins-by-reads.Learnt,
+  pass-to-region-reads.Asked,
+  pass-to-region-reads.Learnt,
+  region-value-below t,
+  region-value.Post,
+  pass-reads.Asked,
+  pass-reads.Learnt,
+)
+
+region-value-region-of-requires : (t : ℕ) → region-value-lts.Need-region-of-requires (region-value-claims t) (region-value-at t) region-value.Post
 region-value-region-of-requires t c κs = search needs
 
-region-value-add-t16 : (t : ℕ) → region-value-lts.Need-add-t16 (
-  region-of-reads.Asked,
-  region-of-reads.Learnt,
-  row-value-below t,
-  row-value.Post,
-  smaller-reads.Asked,
-  smaller-reads.Learnt,
-) (region-value-at t) region-value.Post
-region-value-add-t16 t c = let pre = c .before .before .before .before .before .before .before .before .pre .1 in let w = pre .ready .formed in omega (arith, pre .here, w .regions-most, w .leaves-most, w .peptides-most)
+region-value-add-region : (t : ℕ) → region-value-lts.Need-add-region (region-value-claims t) (region-value-at t) region-value.Post
+region-value-add-region t c =
+    let pre = c .before .before .before .before .before .before .before .pre .1 in
+    let w = pre .ready .formed in
+    omega (arith, pre .here, w .regions-most, w .leaves-most, w .peptides-most)
 
-region-value-row-value-requires : (t : ℕ) → region-value-lts.Need-row-value-requires (
-  region-of-reads.Asked,
-  region-of-reads.Learnt,
-  row-value-below t,
-  row-value.Post,
-  smaller-reads.Asked,
-  smaller-reads.Learnt,
-) (region-value-at t) region-value.Post
+region-value-row-value-requires : (t : ℕ) → region-value-lts.Need-row-value-requires (region-value-claims t) (region-value-at t) region-value.Post
 region-value-row-value-requires t c κs =
     let pre = c .before .before .before .before .before .before .before .before .pre .1 in
     (omega (arith, c .before .before .before .before .before .before .before .before .pre .0, pre .here), region-row _ _ _ pre (held-last _ _ (c .before .before .region-of .ensures)))
 
-region-value-cast-totals : (t : ℕ) → region-value-lts.Need-cast-totals (
-  region-of-reads.Asked,
-  region-of-reads.Learnt,
-  row-value-below t,
-  row-value.Post,
-  smaller-reads.Asked,
-  smaller-reads.Learnt,
-) (region-value-at t) region-value.Post
+region-value-cast-totals : (t : ℕ) → region-value-lts.Need-cast-totals (region-value-claims t) (region-value-at t) region-value.Post
 region-value-cast-totals t c = search needs
 
-region-value-mul-totals : (t : ℕ) → region-value-lts.Need-mul-totals (
-  region-of-reads.Asked,
-  region-of-reads.Learnt,
-  row-value-below t,
-  row-value.Post,
-  smaller-reads.Asked,
-  smaller-reads.Learnt,
-) (region-value-at t) region-value.Post
+region-value-mul-totals : (t : ℕ) → region-value-lts.Need-mul-totals (region-value-claims t) (region-value-at t) region-value.Post
 region-value-mul-totals t c = search needs
 
-region-value-slice-write-totals : (t : ℕ) → region-value-lts.Need-slice-write-totals (
-  region-of-reads.Asked,
-  region-of-reads.Learnt,
-  row-value-below t,
-  row-value.Post,
-  smaller-reads.Asked,
-  smaller-reads.Learnt,
-) (region-value-at t) region-value.Post
-region-value-slice-write-totals t c = let pre = c .before .before .before .before .before .before .before .before .before .before .before .before .pre .1 in omega (arith, pre .here, pre .room, c .before .before .before .row-value .kept .1 .1 .0)
+region-value-slice-write-totals : (t : ℕ) → region-value-lts.Need-slice-write-totals (region-value-claims t) (region-value-at t) region-value.Post
+region-value-slice-write-totals t c =
+    let pre = c .before .before .before .before .before .before .before .before .before .before .before .before .pre .1 in
+    omega (arith, pre .here, pre .room, c .before .before .before .row-value .kept .1 .1 .0)
 
-region-value-smaller-requires : (t : ℕ) → region-value-lts.Need-smaller-requires (
-  region-of-reads.Asked,
-  region-of-reads.Learnt,
-  row-value-below t,
-  row-value.Post,
-  smaller-reads.Asked,
-  smaller-reads.Learnt,
-) (region-value-at t) region-value.Post
+region-value-smaller-requires : (t : ℕ) → region-value-lts.Need-smaller-requires (region-value-claims t) (region-value-at t) region-value.Post
 region-value-smaller-requires t c κs = search needs
 
-region-value-same-length : (t : ℕ) → region-value-lts.Need-same-length (
-  region-of-reads.Asked,
-  region-of-reads.Learnt,
-  row-value-below t,
-  row-value.Post,
-  smaller-reads.Asked,
-  smaller-reads.Learnt,
-) (region-value-at t) region-value.Post
+region-value-same-length : (t : ℕ) → region-value-lts.Need-same-length (region-value-claims t) (region-value-at t) region-value.Post
 region-value-same-length t c = simp length-set (c .before .before .before .before .row-value .kept .1 .1 .0)
 
-region-value-returns : (t : ℕ) → region-value-lts.Need-returns (
-  region-of-reads.Asked,
-  region-of-reads.Learnt,
-  row-value-below t,
-  row-value.Post,
-  smaller-reads.Asked,
-  smaller-reads.Learnt,
-) (region-value-at t) region-value.Post
+region-value-returns : (t : ℕ) → region-value-lts.Need-returns (region-value-claims t) (region-value-at t) region-value.Post
 region-value-returns t c =
     let pre = c .before .before .before .before .before .before .before .before .before .before .before .before .before .pre .1 in
     region-finishes _ _ _ _ _ _ pre (c .before .before .before .before .row-value .kept .1 .1 .0) (held-z _ _ (c .before .before .before .before .before .before .before .region-of .ensures)) (c .smaller .ensures) (c .before .before .before .before .row-value .ensures)
 
 abbrev row-value-Inv-loop : row-value-lts.InvT-loop
-row-value-Inv-loop file selection totals₀ last end total₀ at₀ totals total at =
+row-value-Inv-loop file selection totals₀ last total₀ at₀ totals total at =
     Along (familyOf file) selection (at₀ .region) (at₀ .peptide .0) at total
     × Stored (familyOf file) selection totals₀ totals (at₀ .region) (at .region)
     × (length totals ≡ length totals₀)
 
 abbrev row-value-μ-loop : row-value-lts.MeasureT-loop
-row-value-μ-loop file selection totals₀ last end total₀ at₀ totals total at = regionCount (familyOf file) - at .region
+row-value-μ-loop file selection totals₀ last total₀ at₀ totals total at = regionCount (familyOf file) - at .region
 
-row-value-loop-holds : (t : ℕ) → row-value-lts.Need-loop-holds (
-  begins-by-reads.Asked,
-  begins-by-reads.Learnt,
-  pass-to-region-reads.Asked,
-  pass-to-region-reads.Learnt,
-  region-value-below t,
-  region-value.Post,
-  pass-reads.Asked,
-  pass-reads.Learnt,
-) (row-value-at t) row-value.Post row-value-Inv-loop row-value-μ-loop
+row-value-loop-holds : (t : ℕ) → row-value-lts.Need-loop-holds (row-value-claims t) (row-value-at t) row-value.Post row-value-Inv-loop row-value-μ-loop
 row-value-loop-holds t c = let pre = c .before .before .before .pre .1 in (row-starts (pre .ready .formed) _ _ _ pre, stored-none _ _, refl)
 
-row-value-begins-by-requires : (t : ℕ) → row-value-lts.Need-begins-by-requires (
-  begins-by-reads.Asked,
-  begins-by-reads.Learnt,
-  pass-to-region-reads.Asked,
-  pass-to-region-reads.Learnt,
-  region-value-below t,
-  region-value.Post,
-  pass-reads.Asked,
-  pass-reads.Learnt,
-) (row-value-at t) row-value.Post row-value-Inv-loop row-value-μ-loop
+row-value-begins-by-requires : (t : ℕ) → row-value-lts.Need-begins-by-requires (row-value-claims t) (row-value-at t) row-value.Post row-value-Inv-loop row-value-μ-loop
 row-value-begins-by-requires t c κs = search needs
 
-row-value-pass-to-region-requires : (t : ℕ) → row-value-lts.Need-pass-to-region-requires (
-  begins-by-reads.Asked,
-  begins-by-reads.Learnt,
-  pass-to-region-reads.Asked,
-  pass-to-region-reads.Learnt,
-  region-value-below t,
-  region-value.Post,
-  pass-reads.Asked,
-  pass-reads.Learnt,
-) (row-value-at t) row-value.Post row-value-Inv-loop row-value-μ-loop
+row-value-pass-to-region-requires : (t : ℕ) → row-value-lts.Need-pass-to-region-requires (row-value-claims t) (row-value-at t) row-value.Post row-value-Inv-loop row-value-μ-loop
 row-value-pass-to-region-requires t c κs =
     let pre = c .before .before .before .before .before .before .pre .1 in
     let inv = c .before .before .loop .inv in
     let e = begun _ _ (c .before .begins-by .ensures) (pre .ends) (c .if1 .taken) in
     (pre .ready, (inv .0 .onLeaf, row-meets (pre .ready .formed) _ _ _ _ (inv .0) e))
 
-row-value-region-value-requires : (t : ℕ) → row-value-lts.Need-region-value-requires (
-  begins-by-reads.Asked,
-  begins-by-reads.Learnt,
-  pass-to-region-reads.Asked,
-  pass-to-region-reads.Learnt,
-  region-value-below t,
-  region-value.Post,
-  pass-reads.Asked,
-  pass-reads.Learnt,
-) (row-value-at t) row-value.Post row-value-Inv-loop row-value-μ-loop
+row-value-region-value-requires : (t : ℕ) → row-value-lts.Need-region-value-requires (row-value-claims t) (row-value-at t) row-value.Post row-value-Inv-loop row-value-μ-loop
 row-value-region-value-requires t c κs =
     let pre = c .before .before .before .before .before .before .before .before .before .pre .1 in
     let inv = c .before .before .before .before .before .loop .inv in
@@ -214,16 +138,7 @@ row-value-region-value-requires t c κs =
       region-meets (pre .ready .formed) _ _ _ _ (inv .0) _ _ (pre .ready) (omega (arith, pre .room, inv .2)) e passed,
     )
 
-row-value-add-total : (t : ℕ) → row-value-lts.Need-add-total (
-  begins-by-reads.Asked,
-  begins-by-reads.Learnt,
-  pass-to-region-reads.Asked,
-  pass-to-region-reads.Learnt,
-  region-value-below t,
-  region-value.Post,
-  pass-reads.Asked,
-  pass-reads.Learnt,
-) (row-value-at t) row-value.Post row-value-Inv-loop row-value-μ-loop
+row-value-add-total : (t : ℕ) → row-value-lts.Need-add-total (row-value-claims t) (row-value-at t) row-value.Post row-value-Inv-loop row-value-μ-loop
 row-value-add-total t c =
     let pre = c .before .before .before .before .before .before .before .before .before .before .before .before .before .pre .1 in
     let w = pre .ready .formed in
@@ -233,46 +148,19 @@ row-value-add-total t c =
     let l = row-meets w _ _ _ _ (inv .0) e .0 in
     omega (arith, pass-fits w _ _ _ _ (inv .0) _ _ (omega (arith, w .ordered .first-last k l, w .ordered .last-leaf k l)) (c .before .before .before .before .before .before .pass-to-region .ensures))
 
-row-value-add-total-2 : (t : ℕ) → row-value-lts.Need-add-total-2 (
-  begins-by-reads.Asked,
-  begins-by-reads.Learnt,
-  pass-to-region-reads.Asked,
-  pass-to-region-reads.Learnt,
-  region-value-below t,
-  region-value.Post,
-  pass-reads.Asked,
-  pass-reads.Learnt,
-) (row-value-at t) row-value.Post row-value-Inv-loop row-value-μ-loop
+row-value-add-total-2 : (t : ℕ) → row-value-lts.Need-add-total-2 (row-value-claims t) (row-value-at t) row-value.Post row-value-Inv-loop row-value-μ-loop
 row-value-add-total-2 t c =
     let pre = c .before .before .before .before .before .before .before .before .before .before .before .before .before .pre .1 in
     let w = pre .ready .formed in
     let e = begun _ _ (c .before .before .before .before .before .before .before .before .begins-by .ensures) (pre .ends) (c .before .before .before .before .before .before .before .if1 .taken) in
     omega (arith, row-fits w _ _ _ _ (row-steps w _ _ _ _ (c .before .before .before .before .before .before .before .before .before .loop .inv .0) _ _ _ _ e (c .before .before .before .before .before .before .pass-to-region .ensures) (c .before .before .before .region-value .ensures)))
 
-row-value-loop-less : (t : ℕ) → row-value-lts.Need-loop-less (
-  begins-by-reads.Asked,
-  begins-by-reads.Learnt,
-  pass-to-region-reads.Asked,
-  pass-to-region-reads.Learnt,
-  region-value-below t,
-  region-value.Post,
-  pass-reads.Asked,
-  pass-reads.Learnt,
-) (row-value-at t) row-value.Post row-value-Inv-loop row-value-μ-loop
+row-value-loop-less : (t : ℕ) → row-value-lts.Need-loop-less (row-value-claims t) (row-value-at t) row-value.Post row-value-Inv-loop row-value-μ-loop
 row-value-loop-less t c =
     let walk = c .before .before .before .region-value .ensures in
     omega (arith, walk .later, walk .walked .most, c .before .before .before .before .before .before .pass-to-region .ensures .region)
 
-row-value-loop-again : (t : ℕ) → row-value-lts.Need-loop-again (
-  begins-by-reads.Asked,
-  begins-by-reads.Learnt,
-  pass-to-region-reads.Asked,
-  pass-to-region-reads.Learnt,
-  region-value-below t,
-  region-value.Post,
-  pass-reads.Asked,
-  pass-reads.Learnt,
-) (row-value-at t) row-value.Post row-value-Inv-loop row-value-μ-loop
+row-value-loop-again : (t : ℕ) → row-value-lts.Need-loop-again (row-value-claims t) (row-value-at t) row-value.Post row-value-Inv-loop row-value-μ-loop
 row-value-loop-again t c =
     let pre = c .before .before .before .before .before .before .before .before .before .before .before .before .before .pre .1 in
     let inv = c .before .before .before .before .before .before .before .before .before .loop .inv in
@@ -284,60 +172,24 @@ row-value-loop-again t c =
       c .before .before .before .region-value .kept .1 .1 .0 ∙ inv .2,
     )
 
-row-value-pass-requires : (t : ℕ) → row-value-lts.Need-pass-requires (
-  begins-by-reads.Asked,
-  begins-by-reads.Learnt,
-  pass-to-region-reads.Asked,
-  pass-to-region-reads.Learnt,
-  region-value-below t,
-  region-value.Post,
-  pass-reads.Asked,
-  pass-reads.Learnt,
-) (row-value-at t) row-value.Post row-value-Inv-loop row-value-μ-loop
+row-value-pass-requires : (t : ℕ) → row-value-lts.Need-pass-requires (row-value-claims t) (row-value-at t) row-value.Post row-value-Inv-loop row-value-μ-loop
 row-value-pass-requires t c κs =
     let pre = c .before .before .before .before .before .before .pre .1 in
     let inv = c .before .before .loop .inv in
     let ends = leaf-before (pre .ready .formed) (c .before .before .before .before .before .before .args .from .region) (pre .here) in
     (pre .ready, (inv .0 .onLeaf, (omega (arith, inv .0 .here, pre .ends), omega (arith, ends .1, pre .ends))))
 
-row-value-add-t22 : (t : ℕ) → row-value-lts.Need-add-t22 (
-  begins-by-reads.Asked,
-  begins-by-reads.Learnt,
-  pass-to-region-reads.Asked,
-  pass-to-region-reads.Learnt,
-  region-value-below t,
-  region-value.Post,
-  pass-reads.Asked,
-  pass-reads.Learnt,
-) (row-value-at t) row-value.Post row-value-Inv-loop row-value-μ-loop
-row-value-add-t22 t c =
+row-value-add-count : (t : ℕ) → row-value-lts.Need-add-count (row-value-claims t) (row-value-at t) row-value.Post row-value-Inv-loop row-value-μ-loop
+row-value-add-count t c =
     let pre = c .before .before .before .before .before .before .before .before .pre .1 in
     let w = pre .ready .formed in
     let ends = leaf-before w (c .before .before .before .before .before .before .before .before .args .from .region) (pre .here) in
     omega (arith, pass-fits w _ _ _ _ (c .before .before .before .before .loop .inv .0) _ _ (omega (arith, ends .1, pre .ends)) (c .before .pass .ensures))
 
-row-value-same-length : (t : ℕ) → row-value-lts.Need-same-length (
-  begins-by-reads.Asked,
-  begins-by-reads.Learnt,
-  pass-to-region-reads.Asked,
-  pass-to-region-reads.Learnt,
-  region-value-below t,
-  region-value.Post,
-  pass-reads.Asked,
-  pass-reads.Learnt,
-) (row-value-at t) row-value.Post row-value-Inv-loop row-value-μ-loop
+row-value-same-length : (t : ℕ) → row-value-lts.Need-same-length (row-value-claims t) (row-value-at t) row-value.Post row-value-Inv-loop row-value-μ-loop
 row-value-same-length t c = c .before .before .before .before .loop .inv .2
 
-row-value-returns : (t : ℕ) → row-value-lts.Need-returns (
-  begins-by-reads.Asked,
-  begins-by-reads.Learnt,
-  pass-to-region-reads.Asked,
-  pass-to-region-reads.Learnt,
-  region-value-below t,
-  region-value.Post,
-  pass-reads.Asked,
-  pass-reads.Learnt,
-) (row-value-at t) row-value.Post row-value-Inv-loop row-value-μ-loop
+row-value-returns : (t : ℕ) → row-value-lts.Need-returns (row-value-claims t) (row-value-at t) row-value.Post row-value-Inv-loop row-value-μ-loop
 row-value-returns t c =
     let pre = c .before .before .before .before .before .before .before .before .pre .1 in
     let inv = c .before .before .before .before .loop .inv in
@@ -345,18 +197,11 @@ row-value-returns t c =
     row-finishes (pre .ready .formed) _ _ _ _ _ _ _ _ (inv .0) pre e (c .before .pass .ensures) (inv .1) refl
 
 pub +region-value+row-value-spec : {M : Type 1} → statement M
-+region-value+row-value-spec = close μ-region-value μ-row-value (λ t. region-value-lts.spec (
-  region-of-reads.Asked,
-  region-of-reads.Learnt,
-  row-value-below t,
-  row-value.Post,
-  smaller-reads.Asked,
-  smaller-reads.Learnt,
-)
++region-value+row-value-spec = close μ-region-value μ-row-value (λ t. region-value-lts.spec (region-value-claims t)
     (region-value-at t)
     region-value.Post
     (region-value-region-of-requires t)
-    (region-value-add-t16 t)
+    (region-value-add-region t)
     (region-value-row-value-requires t)
     (region-value-cast-totals t)
     (region-value-mul-totals t)
@@ -364,16 +209,7 @@ pub +region-value+row-value-spec : {M : Type 1} → statement M
     (region-value-smaller-requires t)
     (region-value-same-length t)
     (region-value-returns t))
-    λ t. row-value-lts.spec (
-      begins-by-reads.Asked,
-      begins-by-reads.Learnt,
-      pass-to-region-reads.Asked,
-      pass-to-region-reads.Learnt,
-      region-value-below t,
-      region-value.Post,
-      pass-reads.Asked,
-      pass-reads.Learnt,
-    )
+    λ t. row-value-lts.spec (row-value-claims t)
     (row-value-at t)
     row-value.Post
     row-value-Inv-loop
@@ -387,6 +223,6 @@ pub +region-value+row-value-spec : {M : Type 1} → statement M
     (row-value-loop-less t)
     (row-value-loop-again t)
     (row-value-pass-requires t)
-    (row-value-add-t22 t)
+    (row-value-add-count t)
     (row-value-same-length t)
     (row-value-returns t)

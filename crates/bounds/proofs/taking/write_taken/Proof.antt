@@ -72,8 +72,8 @@ loop-again c =
       omega arith,
       inv .1,
       simp length-set (inv .2),
-      until-next F T k _ (rw (inv .3) at (e .1)),
-      ap (λ (t : List ℕ). set t k (c .before .take .result .byte)) (inv .4) ∙ taken-next F T out k _ here (omega (arith, c .before .before .before .before .before .before .before .before .before .pre .1)) (rw (inv .3) at (e .0)),
+      until-next F T k _ (rw (inv .3) at (e .latest)),
+      ap (λ (t : List ℕ). set t k (c .before .take .result .byte)) (inv .4) ∙ taken-next F T out k _ here (omega (arith, c .before .before .before .before .before .before .before .before .before .pre .1)) (rw (inv .3) at (e .byte)),
     )
 
 same-length : tie.Need-same-length Inv-loop μ-loop

@@ -43,9 +43,12 @@ loop-less c = search needs
 
 loop-again : tie.Need-loop-again Inv-loop μ-loop
 loop-again c =
-    let inv = c .before .before .loop .inv in
-    (omega arith, refl, simp length-set (inv .2),
-    holds-more (c .before .before .loop .numbers) (λ k. numberAt (now (c .before .before .before .before .before .args .bytes)) (2 * k)) (c .before .before .loop .i) _ (inv .3) (room (c .before)) (c .number-at .ensures))
+    let inv = c .before .before .loop .inv in (
+      omega arith,
+      refl,
+      simp length-set (inv .2),
+      holds-more (c .before .before .loop .numbers) (λ k. numberAt (now (c .before .before .before .before .before .args .bytes)) (2 * k)) (c .before .before .loop .i) _ (inv .3) (room (c .before)) (c .number-at .ensures),
+    )
 
 same-length : tie.Need-same-length Inv-loop μ-loop
 same-length c = search needs
@@ -54,9 +57,9 @@ returns : tie.Need-returns Inv-loop μ-loop
 returns c =
     let bytes = now (c .before .before .before .before .args .bytes) in
     let inv = c .before .loop .inv in
-    record
-    { count = refl
-    ; path = path-held bytes (c .before .loop .numbers) (λ k h. inv .3 k (omega (arith, c .loop-test .left))) (omega (arith, c .before .before .before .before .pre, inv .2))
+    record {
+      count = refl;
+      path = path-held bytes (c .before .loop .numbers) (λ k h. inv .3 k (omega (arith, c .loop-test .left))) (omega (arith, c .before .before .before .before .pre, inv .2));
     }
 
 pub decode-spec : {M : Type 1} → statement M

@@ -14,15 +14,32 @@ put-field-requires-2 c κs = omega (arith, c .before .before .before .before .be
 
 put-field-requires-3 : tie.Need-put-field-requires-3
 put-field-requires-3 c κs =
-    omega
-    (arith, c .before .before .before .before .before .before .before .before .before .before .pre, c .before .before .before .before .before .before .before .put-field .ensures .ends, c .before .before .before .before .before .before .before .put-field .kept .0, c .before .before .before .put-field2 .ensures .ends, c .before .before .before .put-field2 .kept .0,
-    field-short (c .before .before .before .before .before .before .before .before .before .before .args .t) 32, field-short (c .before .before .before .before .before .before .before .before .before .before .args .peptide) 32)
+    omega (
+      arith,
+      c .before .before .before .before .before .before .before .before .before .before .pre,
+      c .before .before .before .before .before .before .before .put-field .ensures .ends,
+      c .before .before .before .before .before .before .before .put-field .kept .0,
+      c .before .before .before .put-field2 .ensures .ends,
+      c .before .before .before .put-field2 .kept .0,
+      field-short (c .before .before .before .before .before .before .before .before .before .before .args .t) 32,
+      field-short (c .before .before .before .before .before .before .before .before .before .before .args .peptide) 32,
+    )
 
 put-field-requires-4 : tie.Need-put-field-requires-4
 put-field-requires-4 c κs =
-    omega
-    (arith, c .before .before .before .before .before .before .before .before .before .before .before .before .before .before .pre, c .before .before .before .before .before .before .before .before .before .before .before .put-field .ensures .ends, c .before .before .before .before .before .before .before .before .before .before .before .put-field .kept .0, c .before .before .before .before .before .before .before .put-field2 .ensures .ends, c .before .before .before .before .before .before .before .put-field2 .kept .0, c .before .before .before .put-field3 .ensures .ends, c .before .before .before .put-field3 .kept .0,
-    field-short (c .before .before .before .before .before .before .before .before .before .before .before .before .before .before .args .t) 32, field-short (c .before .before .before .before .before .before .before .before .before .before .before .before .before .before .args .peptide) 32, field-short (c .before .before .before .before .before .before .before .before .before .before .before .before .before .before .args .value) 32)
+    omega (
+      arith,
+      c .before .before .before .before .before .before .before .before .before .before .before .before .before .before .pre,
+      c .before .before .before .before .before .before .before .before .before .before .before .put-field .ensures .ends,
+      c .before .before .before .before .before .before .before .before .before .before .before .put-field .kept .0,
+      c .before .before .before .before .before .before .before .put-field2 .ensures .ends,
+      c .before .before .before .before .before .before .before .put-field2 .kept .0,
+      c .before .before .before .put-field3 .ensures .ends,
+      c .before .before .before .put-field3 .kept .0,
+      field-short (c .before .before .before .before .before .before .before .before .before .before .before .before .before .before .args .t) 32,
+      field-short (c .before .before .before .before .before .before .before .before .before .before .before .before .before .before .args .peptide) 32,
+      field-short (c .before .before .before .before .before .before .before .before .before .before .before .before .before .before .args .value) 32,
+    )
 
 same-length : tie.Need-same-length
 same-length c = search needs

@@ -13,18 +13,37 @@ put-digit-requires-2 : tie.Need-put-digit-requires-2
 put-digit-requires-2 c κs = (omega (arith, c .before .before .before .before .before .before .pre, c .before .before .before .put-digit .ensures .ends, c .before .before .before .put-digit .kept .0, digit-short 10000 (c .before .before .before .before .before .before .args .n)), omega arith)
 
 put-digit-requires-3 : tie.Need-put-digit-requires-3
-put-digit-requires-3 c κs =
-    (omega
-    (arith, c .before .before .before .before .before .before .before .before .before .before .pre, c .before .before .before .before .before .before .before .put-digit .ensures .ends, c .before .before .before .before .before .before .before .put-digit .kept .0, c .before .before .before .put-digit2 .ensures .ends, c .before .before .before .put-digit2 .kept .0,
-    digit-short 10000 (c .before .before .before .before .before .before .before .before .before .before .args .n), digit-short 1000 (c .before .before .before .before .before .before .before .before .before .before .args .n)),
-    omega arith)
+put-digit-requires-3 c κs = (
+  omega (
+    arith,
+    c .before .before .before .before .before .before .before .before .before .before .pre,
+    c .before .before .before .before .before .before .before .put-digit .ensures .ends,
+    c .before .before .before .before .before .before .before .put-digit .kept .0,
+    c .before .before .before .put-digit2 .ensures .ends,
+    c .before .before .before .put-digit2 .kept .0,
+    digit-short 10000 (c .before .before .before .before .before .before .before .before .before .before .args .n),
+    digit-short 1000 (c .before .before .before .before .before .before .before .before .before .before .args .n),
+  ),
+  omega arith,
+)
 
 put-digit-requires-4 : tie.Need-put-digit-requires-4
-put-digit-requires-4 c κs =
-    (omega
-    (arith, c .before .before .before .before .before .before .before .before .before .before .before .before .before .before .pre, c .before .before .before .before .before .before .before .before .before .before .before .put-digit .ensures .ends, c .before .before .before .before .before .before .before .before .before .before .before .put-digit .kept .0, c .before .before .before .before .before .before .before .put-digit2 .ensures .ends, c .before .before .before .before .before .before .before .put-digit2 .kept .0, c .before .before .before .put-digit3 .ensures .ends, c .before .before .before .put-digit3 .kept .0,
-    digit-short 10000 (c .before .before .before .before .before .before .before .before .before .before .before .before .before .before .args .n), digit-short 1000 (c .before .before .before .before .before .before .before .before .before .before .before .before .before .before .args .n), digit-short 100 (c .before .before .before .before .before .before .before .before .before .before .before .before .before .before .args .n)),
-    omega arith)
+put-digit-requires-4 c κs = (
+  omega (
+    arith,
+    c .before .before .before .before .before .before .before .before .before .before .before .before .before .before .pre,
+    c .before .before .before .before .before .before .before .before .before .before .before .put-digit .ensures .ends,
+    c .before .before .before .before .before .before .before .before .before .before .before .put-digit .kept .0,
+    c .before .before .before .before .before .before .before .put-digit2 .ensures .ends,
+    c .before .before .before .before .before .before .before .put-digit2 .kept .0,
+    c .before .before .before .put-digit3 .ensures .ends,
+    c .before .before .before .put-digit3 .kept .0,
+    digit-short 10000 (c .before .before .before .before .before .before .before .before .before .before .before .before .before .before .args .n),
+    digit-short 1000 (c .before .before .before .before .before .before .before .before .before .before .before .before .before .before .args .n),
+    digit-short 100 (c .before .before .before .before .before .before .before .before .before .before .before .before .before .before .args .n),
+  ),
+  omega arith,
+)
 
 cast-put-byte : tie.Need-cast-put-byte
 cast-put-byte c = search needs
@@ -34,9 +53,22 @@ add-put-byte c = search needs
 
 put-byte-requires : tie.Need-put-byte-requires
 put-byte-requires c κs =
-    omega
-    (arith, c .before .before .before .before .before .before .before .before .before .before .before .before .before .before .before .before .before .before .pre, c .before .before .before .before .before .before .before .before .before .before .before .before .before .before .before .put-digit .ensures .ends, c .before .before .before .before .before .before .before .before .before .before .before .before .before .before .before .put-digit .kept .0, c .before .before .before .before .before .before .before .before .before .before .before .put-digit2 .ensures .ends, c .before .before .before .before .before .before .before .before .before .before .before .put-digit2 .kept .0, c .before .before .before .before .before .before .before .put-digit3 .ensures .ends, c .before .before .before .before .before .before .before .put-digit3 .kept .0, c .before .before .before .put-digit4 .ensures .ends, c .before .before .before .put-digit4 .kept .0,
-    digit-short 10000 (c .before .before .before .before .before .before .before .before .before .before .before .before .before .before .before .before .before .before .args .n), digit-short 1000 (c .before .before .before .before .before .before .before .before .before .before .before .before .before .before .before .before .before .before .args .n), digit-short 100 (c .before .before .before .before .before .before .before .before .before .before .before .before .before .before .before .before .before .before .args .n), digit-short 10 (c .before .before .before .before .before .before .before .before .before .before .before .before .before .before .before .before .before .before .args .n))
+    omega (
+      arith,
+      c .before .before .before .before .before .before .before .before .before .before .before .before .before .before .before .before .before .before .pre,
+      c .before .before .before .before .before .before .before .before .before .before .before .before .before .before .before .put-digit .ensures .ends,
+      c .before .before .before .before .before .before .before .before .before .before .before .before .before .before .before .put-digit .kept .0,
+      c .before .before .before .before .before .before .before .before .before .before .before .put-digit2 .ensures .ends,
+      c .before .before .before .before .before .before .before .before .before .before .before .put-digit2 .kept .0,
+      c .before .before .before .before .before .before .before .put-digit3 .ensures .ends,
+      c .before .before .before .before .before .before .before .put-digit3 .kept .0,
+      c .before .before .before .put-digit4 .ensures .ends,
+      c .before .before .before .put-digit4 .kept .0,
+      digit-short 10000 (c .before .before .before .before .before .before .before .before .before .before .before .before .before .before .before .before .before .before .args .n),
+      digit-short 1000 (c .before .before .before .before .before .before .before .before .before .before .before .before .before .before .before .before .before .before .args .n),
+      digit-short 100 (c .before .before .before .before .before .before .before .before .before .before .before .before .before .before .before .before .before .before .args .n),
+      digit-short 10 (c .before .before .before .before .before .before .before .before .before .before .before .before .before .before .before .before .before .before .args .n),
+    )
 
 same-length : tie.Need-same-length
 same-length c = search needs

@@ -33,10 +33,12 @@ loop-less c = search needs
 loop-again : tie.Need-loop-again Inv-loop μ-loop
 loop-again c =
     let a = c .before .before .before .before .before .before .before .before .before .before .args in
-    let inv = c .before .before .before .before .before .loop .inv in
-    (omega (arith, c .before .before .before .before .loop-test .taken), c .before .before .put-row .kept .0 ∙ inv .1,
-    omega (arith, inv .2, c .before .before .put-row .ensures .ends, row-short (now (a .path)) (now (a .values)) (now (a .marks)) (c .before .before .before .before .before .loop .t)),
-    rw (rows-more (c .before .before .before .before .before .loop .t) (rowAt (now (a .path)) (now (a .values)) (now (a .marks)))) (appends-then (inv .3) (c .before .before .put-row .ensures)))
+    let inv = c .before .before .before .before .before .loop .inv in (
+      omega (arith, c .before .before .before .before .loop-test .taken),
+      c .before .before .put-row .kept .0 ∙ inv .1,
+      omega (arith, inv .2, c .before .before .put-row .ensures .ends, row-short (now (a .path)) (now (a .values)) (now (a .marks)) (c .before .before .before .before .before .loop .t)),
+      rw (rows-more (c .before .before .before .before .before .loop .t) (rowAt (now (a .path)) (now (a .values)) (now (a .marks)))) (appends-then (inv .3) (c .before .before .put-row .ensures)),
+    )
 
 same-length : tie.Need-same-length Inv-loop μ-loop
 same-length c = search needs

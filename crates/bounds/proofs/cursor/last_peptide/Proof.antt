@@ -6,8 +6,8 @@ use denote.Ref.{now}
 use Rattle.reader.specs.Family.{familyOf, peptidesUpTo}
 use Rattle.bounds.proofs.Family.{upTo-mono, upTo-leaf}
 use borrow.Author.Needs.{needs}
-use Rattle.bounds.proofs.rows.last_peptide.Statement.{statement}
-use Rattle.bounds.proofs.rows.last_peptide.Tie as tie
+use Rattle.bounds.proofs.cursor.last_peptide.Statement.{statement}
+use Rattle.bounds.proofs.cursor.last_peptide.Tie as tie
 
 abbrev Inv-loop : tie.InvT-loop
 Inv-loop file end j₀ p₀ j p =
@@ -19,8 +19,8 @@ abbrev μ-loop : tie.MeasureT-loop
 loop-holds : tie.Need-loop-holds Inv-loop μ-loop
 loop-holds c = search needs
 
-add-t10 : tie.Need-add-t10 Inv-loop μ-loop
-add-t10 c = search needs
+add-j : tie.Need-add-j Inv-loop μ-loop
+add-j c = search needs
 
 leaf-length-requires : tie.Need-leaf-length-requires Inv-loop μ-loop
 leaf-length-requires c κs = search needs
@@ -30,9 +30,6 @@ add-p c =
     let F = familyOf (now (c .before .before .before .before .args .file)) in
     let j = c .before .before .loop .j in
     omega (arith, upTo-leaf F j, upTo-mono F (j + 1) (c .before .before .before .before .args .last .0) (omega arith))
-
-add-j : tie.Need-add-j Inv-loop μ-loop
-add-j c = search needs
 
 loop-less : tie.Need-loop-less Inv-loop μ-loop
 loop-less c = search needs
@@ -55,10 +52,9 @@ last-peptide-spec =
     Inv-loop
     μ-loop
     loop-holds
-    add-t10
+    add-j
     leaf-length-requires
     add-p
-    add-j
     loop-less
     loop-again
     returns)

@@ -9,8 +9,8 @@ use Rattle.reader.specs.Family.{familyOf, regionCount, region}
 use Rattle.reader.proofs.Parsed.{regions-read, held-first}
 use Rattle.bounds.specs.Rows.{beginsBy}
 use borrow.Author.Needs.{needs}
-use Rattle.bounds.proofs.rows.begins_by.Statement.{statement}
-use Rattle.bounds.proofs.rows.begins_by.Tie as tie
+use Rattle.bounds.proofs.cursor.begins_by.Statement.{statement}
+use Rattle.bounds.proofs.cursor.begins_by.Tie as tie
 
 number-at-requires : tie.Need-number-at-requires
 number-at-requires c κs = search needs
@@ -23,7 +23,7 @@ unfolding beginsBy
 returns c =
     let s = now (c .before .before .before .before .args .file) in
     let k = c .before .before .before .before .args .k in
-    rw (lt-ltb k (regionCount (familyOf s)) (omega (arith, regions-read s))) (ap (λ (l : ℕ). leb l (c .before .before .before .before .args .last)) (held-first _ (region (familyOf s) k) (c .region-of .ensures)))
+    rw (lt-ltb k (regionCount (familyOf s)) (omega (arith, regions-read s))) (ap (λ (l : ℕ). leb l (c .before .before .before .before .args .last .0)) (held-first _ (region (familyOf s) k) (c .region-of .ensures)))
 
 returns-2 : tie.Need-returns-2
 unfolding beginsBy

@@ -7,8 +7,8 @@ use Rattle.reader.specs.Family.{familyOf, region}
 use Rattle.reader.proofs.Parsed.{held-first}
 use Rattle.bounds.proofs.RowWalk.{passed-to}
 use borrow.Author.Needs.{needs}
-use Rattle.bounds.proofs.rows.pass_to_region.Statement.{statement}
-use Rattle.bounds.proofs.rows.pass_to_region.Tie as tie
+use Rattle.bounds.proofs.cursor.pass_to_region.Statement.{statement}
+use Rattle.bounds.proofs.cursor.pass_to_region.Tie as tie
 
 first-read : (c : tie.After-region-of) → c .region-of .result .first .0 ≡ region (familyOf (now (c .before .before .before .args .file))) (c .before .before .before .args .from .region) .first
 first-read c = held-first _ _ (c .region-of .ensures)
@@ -16,8 +16,8 @@ first-read c = held-first _ _ (c .region-of .ensures)
 region-of-requires : tie.Need-region-of-requires
 region-of-requires c κs = search needs
 
-sub-t7 : tie.Need-sub-t7
-sub-t7 c = omega (arith, first-read c, c .before .before .before .pre .1 .1 .1)
+sub-last : tie.Need-sub-last
+sub-last c = omega (arith, first-read c, c .before .before .before .pre .1 .1 .1)
 
 pass-requires : tie.Need-pass-requires
 pass-requires c κs =
@@ -31,4 +31,4 @@ returns : tie.Need-returns
 returns c = passed-to (ap (λ (n : ℕ). n - 1) (first-read (c .before))) (c .pass .ensures)
 
 pub pass-to-region-spec : {M : Type 1} → statement M
-pass-to-region-spec = tie.close (tie.spec region-of-requires sub-t7 pass-requires returns)
+pass-to-region-spec = tie.close (tie.spec region-of-requires sub-last pass-requires returns)

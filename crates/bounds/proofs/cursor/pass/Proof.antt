@@ -5,8 +5,8 @@ use denote.Ref.{now}
 use Rattle.reader.specs.Family.{familyOf}
 use Rattle.bounds.proofs.Family.{upTo-mono}
 use Rattle.bounds.proofs.RowTotals.{leaf-most}
-use Rattle.bounds.proofs.rows.pass.Statement.{statement}
-use Rattle.bounds.proofs.rows.pass.Tie as tie
+use Rattle.bounds.proofs.cursor.pass.Statement.{statement}
+use Rattle.bounds.proofs.cursor.pass.Tie as tie
 
 last-peptide-requires : tie.Need-last-peptide-requires
 last-peptide-requires c κs =
