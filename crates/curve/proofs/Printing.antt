@@ -3,25 +3,27 @@ use Prim.Native.Nat.{ℕ, zero, suc, _+_, _<_, _≤_}
 use native.Mathlib.Nat.{le-of-suc-le-suc}
 use native.Mathlib.Omega.{arith}
 use native.Mathlib.Numerals.{add-one}
-use mathlib.Core.Bool.{Bool, true, false, cond, _||_}
-use mathlib.Core.List.{List, [], _∷_, _++_}
+use mathlib.Core.Bool.{Bool, true, false, not, cond, _||_}
+use mathlib.Core.List.{List, [], _∷_, _++_, append-assoc}
 use mathlib.Core.Path.{_≡_, refl, sym, ap, ap₂, _∙_}
 use mathlib.Core.Logic.{⊎-elim}
 use lib.ListN.{length, getD, List·getD-append}
 use lib.Dec.{eqb}
-use borrow.Author.Tests.{ne-eqb, le-ltb, ltb-false}
+use borrow.Author.Tests.{ne-eqb, eqb-true, eqb-false, le-ltb, ltb-false, not-true, not-false}
 use Rattle.reader.specs.Lists.{tabulate}
 use Rattle.reader.specs.Family.{Family, familyOf}
-use Rattle.reader.specs.Causes.{Cause, firstCause, fileCauses, Accepted}
+use Rattle.reader.specs.Causes.{Cause, firstCause, headerCauses, familyCauses, fileCauses, Accepted}
 use Rattle.reader.proofs.Bools.{or-neither}
 use Rattle.reader.proofs.Lists.{length-tabulate}
-use Rattle.reader.proofs.First.{Numbered, first-holds, first-fails, head-clear, join-clear, join-holds, none-or-some}
+use Rattle.reader.proofs.First.{Numbered, first-fails, head-clear, join-clear, join-holds, clear-left, clear-right, none-or-some}
 use Rattle.reader.proofs.Judged.{peptides-counted}
 use Rattle.reader.proofs.Accepting.{accepted-header, file-numbered}
 use Rattle.bounds.specs.Curves.{curveValues, curveMarks, entry, markAt, cause11, cause12, cause13}
-use Rattle.bounds.specs.Calls.{short, pathCauses, curveCauses}
-use Rattle.curve.specs.Text.{rows, rowAt, lineOf, tableOf, refusal}
-use Rattle.curve.specs.Program.{pathOf, odd, programCauses, output}
+use Rattle.bounds.specs.declared.Curved.{Curved}
+use Rattle.bounds.specs.declared.Curved.the-variants as curved
+use Rattle.bounds.specs.Calls.{Answers, reportCurve, declinedCurve, short, pathCauses, curveCauses}
+use Rattle.curve.specs.Text.{heading, rows, rowAt, lineOf, tableOf, refusal}
+use Rattle.curve.specs.Program.{pathOf, odd, programCauses, textOf, curveInputs, output}
 
 -- The number.
 
@@ -34,49 +36,65 @@ module _ (s bytes : List ℕ) where
   unfolding programCauses firstCause
   odd-path a o = join-clear (fileCauses s) _ (file-numbered s) a ∙ rw o
 
-  -- with an even byte count the program's causes are those of the curve, since the values and the marks have room
-  even-rest :
-      Accepted s → odd bytes ≡ false → (values marks : List ℕ) → 4097 ≤ length values → 4096 ≤ length marks
-      → firstCause (pathCauses (familyOf s .peptides) (pathOf bytes) ++ (record { number = 16; holds = short (length (pathOf bytes) + 1) values || short (length (pathOf bytes)) marks } ∷ []))
-      ≡ firstCause (pathCauses (familyOf s .peptides) (pathOf bytes))
-  unfolding pathCauses short cause11
-  even-rest a o values marks lv lm =
-      let m : ℕ = familyOf s .peptides in
-      let path : List ℕ = pathOf bytes in
-      let cs : List Cause = pathCauses m path in
-      let last : Cause = record { number = 16; holds = short (length path + 1) values || short (length path) marks } in
-      ⊎-elim
-      (λ z.
-      let few = head-clear (record { number = 11; holds = cause11 m path }) _ (omega arith) z in
-      let t : length path ≤ m = ltb-false m (length path) (few .0) in
-      let most = peptides-counted (familyOf s) (accepted-header s a .no2) in
-      join-clear cs (last ∷ []) (omega arith) z
-      ∙ first-fails last [] (or-neither (short (length path + 1) values) (short (length path) marks) (le-ltb (length values) (length path + 1) (omega arith)) (le-ltb (length marks) (length path) (omega arith)))
-      ∙ sym z)
-      (λ r. join-holds cs (last ∷ []) r)
-      (none-or-some cs)
+  -- with an even byte count the program's causes are those of the family and the path
+  pub even-path : odd bytes ≡ false → output s bytes ≡ textOf (firstCause (curveInputs s (pathOf bytes))) s (pathOf bytes)
+  unfolding output programCauses curveInputs pathCauses
+  even-path o = rw o
 
-  pub even-path :
-      odd bytes ≡ false → (values marks : List ℕ) → 4097 ≤ length values → 4096 ≤ length marks
-      → firstCause (curveCauses s (pathOf bytes) values marks) ≡ firstCause (programCauses s bytes)
-  unfolding programCauses pathCauses curveCauses
-  even-path o values marks lv lm =
+  pub odd-text : (n : ℕ) → odd bytes ≡ true → n ≡ firstCause (programCauses s bytes) → (n ≡ 0 → ⊥) → output s bytes ≡ refusal n
+  unfolding output textOf
+  odd-text n o e h = rw (← e, ne-eqb n 0 h)
+
+  pub odd-refused : odd bytes ≡ true → firstCause (programCauses s bytes) ≡ 0 → ⊥
+  odd-refused o z =
       ⊎-elim
-      (λ a. join-clear (fileCauses s) _ (file-numbered s) a ∙ even-rest a o values marks lv lm ∙ sym (join-clear (fileCauses s) _ (file-numbered s) a ∙ rw o))
-      (λ r. join-holds (fileCauses s) _ r ∙ sym (join-holds (fileCauses s) _ r))
+      (λ a. omega (arith, odd-path a o))
+      (λ r. r (sym (refused-family r) ∙ z))
       (none-or-some (fileCauses s))
 
-  -- The text.
+inputs-numbered : (s path : List ℕ) → Numbered (curveInputs s path)
+unfolding curveInputs fileCauses headerCauses familyCauses pathCauses
+inputs-numbered s path = omega arith
 
-  pub prints-refusal : (n : ℕ) → n ≡ firstCause (programCauses s bytes) → (n ≡ 0 → ⊥) → output s bytes ≡ refusal n
-  unfolding output
+room :
+    (path values marks : List ℕ) → 4097 ≤ length values → 4096 ≤ length marks → length path ≤ 4096
+    → firstCause (record { number = 16; holds = short (length path + 1) values || short (length path) marks } ∷ []) ≡ 0
+unfolding firstCause short
+room path values marks lv lm few =
+    rw (or-neither (short (length path + 1) values) (short (length path) marks) (le-ltb (length values) (length path + 1) (omega arith)) (le-ltb (length marks) (length path) (omega arith)))
+
+module _ (s path : List ℕ) where
+  pub prints-refusal : (n : ℕ) → n ≡ firstCause (curveInputs s path) → (n ≡ 0 → ⊥) → textOf (firstCause (curveInputs s path)) s path ≡ refusal n
+  unfolding textOf
   prints-refusal n e h = rw (← e, ne-eqb n 0 h)
 
   pub prints-table :
-      firstCause (programCauses s bytes) ≡ 0
-      → output s bytes ≡ tableOf (pathOf bytes) (curveValues (familyOf s) (pathOf bytes)) (curveMarks (familyOf s) (pathOf bytes))
-  unfolding output
+      firstCause (curveInputs s path) ≡ 0
+      → textOf (firstCause (curveInputs s path)) s path ≡ tableOf path (curveValues (familyOf s) path) (curveMarks (familyOf s) path)
+  unfolding textOf
   prints-table h = rw h
+
+  -- a path without a cause has at most 4,096 peptides
+  pub short-path : firstCause (curveInputs s path) ≡ 0 → length path ≤ 4096
+  unfolding curveInputs pathCauses cause11
+  short-path h =
+      let a : Accepted s = clear-left (fileCauses s) _ (file-numbered s) h in
+      let rest = clear-right (fileCauses s) _ (file-numbered s) h in
+      let m : ℕ = familyOf s .peptides in
+      let few = head-clear (record { number = 11; holds = cause11 m path }) _ (omega arith) rest in
+      let most = peptides-counted (familyOf s) (accepted-header s a .no2) in
+      omega (arith, ltb-false m (length path) (few .0))
+
+  -- the values and the marks have room, so the curve has no cause of its own
+  pub curve-number : (values marks : List ℕ) → 4097 ≤ length values → 4096 ≤ length marks → firstCause (curveCauses s path values marks) ≡ firstCause (curveInputs s path)
+  unfolding curveCauses curveInputs
+  curve-number values marks lv lm =
+      let last : Cause = record { number = 16; holds = short (length path + 1) values || short (length path) marks } in
+      ap firstCause (sym (append-assoc (fileCauses s) (pathCauses (familyOf s .peptides) path) (last ∷ [])))
+      ∙ ⊎-elim
+      (λ z. join-clear (curveInputs s path) (last ∷ []) (inputs-numbered s path) z ∙ room path values marks lv lm (short-path z) ∙ sym z)
+      (λ r. join-holds (curveInputs s path) (last ∷ []) r)
+      (none-or-some (curveInputs s path))
 
 -- A table reads the values and the marks of its lines only.
 
@@ -90,6 +108,34 @@ pub table-same :
     → tableOf path (values ++ more) (marks ++ rest) ≡ tableOf path values marks
 unfolding tableOf rowAt
 table-same path values more marks rest lv lm =
-    ap (λ (l : List ℕ). _ ++ l)
+    ap (λ (l : List ℕ). heading ++ l)
     (rows-same (length path + 1) (rowAt path (values ++ more) (marks ++ rest)) (rowAt path values marks)
     (λ t h. ap₂ (λ (v k : ℕ). lineOf t (getD (0 ∷ path) t 0) v k) (List·getD-append values more 0 t (omega arith)) (List·getD-append (0 ∷ marks) rest 0 t (omega arith))))
+
+pub values-room : (F : Family) (path : List ℕ) → length path < length (curveValues F path)
+unfolding curveValues
+values-room F path = omega (arith, length-tabulate (length path + 1) (entry F path))
+
+pub marks-room : (F : Family) (path : List ℕ) → length path ≤ length (curveMarks F path)
+unfolding curveMarks
+marks-room F path = omega (arith, length-tabulate (length path) (λ i. markAt F path (i + 1)))
+
+-- What the curve's answer says of the first cause.
+
+module _ (cs : List Cause) (r : Curved) (told : declinedCurve r ≡ not (eqb (firstCause cs) 0)) where
+  pub written-clear : r ≡ curved.Written → firstCause cs ≡ 0
+  unfolding declinedCurve
+  written-clear e = eqb-true (firstCause cs) 0 (not-false (eqb (firstCause cs) 0) (sym told ∙ ap declinedCurve e))
+
+  pub refused-some : (n : ℕ) → r ≡ curved.Refused n → firstCause cs ≡ 0 → ⊥
+  unfolding declinedCurve
+  refused-some n e = eqb-false (firstCause cs) 0 (not-true (eqb (firstCause cs) 0) (sym told ∙ ap declinedCurve e))
+
+module _ (cs : List Cause) (path : List ℕ) (r : Curved) (a : Answers cs path [] (reportCurve r)) where
+  pub refused-number : (n : ℕ) → r ≡ curved.Refused n → n ≡ firstCause cs
+  unfolding reportCurve
+  refused-number n e = ap (λ (q : Curved). reportCurve q .number) (sym e) ∙ a .number
+
+  pub repeated-number : (p : ℕ) → r ≡ curved.Repeated p → _≡_ {A = ℕ} 13 (firstCause cs)
+  unfolding reportCurve
+  repeated-number p e = ap (λ (q : Curved). reportCurve q .number) (sym e) ∙ a .number

@@ -10,6 +10,7 @@ use Rattle.reader.specs.Bytes.{numberAt}
 use Rattle.reader.specs.Family.{Family, familyOf}
 use Rattle.reader.specs.Causes.{Cause, firstCause, fileCauses}
 use Rattle.bounds.specs.Curves.{curveValues, curveMarks, cause11, cause12, cause13}
+use Rattle.bounds.specs.Calls.{pathCauses}
 use Rattle.curve.specs.Text.{tableOf, refusal}
 
 -- the numbers of the path file, 2 bytes each, low byte first
@@ -30,15 +31,21 @@ programCauses family bytes =
     ∷ record { number = 13; holds = cause13 path }
     ∷ [])
 
--- the table, or one line with the number of the first cause that holds
-unfoldable pub output : List ℕ → List ℕ → List ℕ
-output family bytes =
-    let number : ℕ = firstCause (programCauses family bytes) in
+-- the table of a path, or one line with the number
+unfoldable pub textOf : ℕ → List ℕ → List ℕ → List ℕ
+textOf number family path =
     let F : Family = familyOf family in
-    let path : List ℕ = pathOf bytes in
     cond (eqb number 0) (tableOf path (curveValues F path) (curveMarks F path)) (refusal number)
+
+-- by the number of the first cause that holds
+unfoldable pub output : List ℕ → List ℕ → List ℕ
+output family bytes = textOf (firstCause (programCauses family bytes)) family (pathOf bytes)
 
 -- the first n numbers are the path
 pub record Decoded (bytes numbers : List ℕ) (n : ℕ) : Type 0 where
   pub count : n ≡ length bytes / 2
   pub path : take n numbers ≡ pathOf bytes
+
+-- the causes of a family and a path
+unfoldable pub curveInputs : List ℕ → List ℕ → List Cause
+curveInputs family path = fileCauses family ++ pathCauses (familyOf family .peptides) path
