@@ -87,6 +87,12 @@ pub record Marked (L M : List ℕ) (from to until : ℕ) : Type 0 where
   pub old : (p : ℕ) → p < from → getD M p 0 ≡ getD L p 0
   pub new : (p : ℕ) → from ≤ p → p < to → getD M p 0 ≡ cond (ltb p until) 0 1
 
+-- with a region more, which has that z and that high end, the dead peptides reach up to v, not u
+pub record Reached (z high u v : ℕ) : Type 0 where
+  pub grows : u ≤ v
+  pub covers : z ≡ 0 → high ≤ v
+  pub is : (v ≡ u) ⊎ ((z ≡ 0) × (v ≡ high))
+
 -- the first n live bytes are right
 abbrev pub LiveUpTo : Family → ℕ → List ℕ → Type 0
 LiveUpTo F n L = (p : ℕ) → p < n → getD L p 0 ≡ cond (live (rangesOf F) (p + 1)) 1 0

@@ -12,7 +12,7 @@ ghost use lib.Dec.{eqb, leb, ltb};
 ghost use Rattle.reader.specs.Family.{familyOf, regionCount};
 ghost use Rattle.bounds.specs.Selections.{selected};
 ghost use Rattle.reduction.specs.Steps.{Parented, Stretched};
-ghost use Rattle.reduction.specs.Passes.{Beginning, Began, Open, Ending, Known, Roomy, Ends, Ended, Marked, LiveUpTo, Spacious, Nexts, Lasts, WithNexts, WithLasts, WithLives, FirstsUpTo, LastsUpTo, Rooms};
+ghost use Rattle.reduction.specs.Passes.{Beginning, Began, Open, Ending, Known, Roomy, Ends, Ended, Marked, Reached, LiveUpTo, Spacious, Nexts, Lasts, WithNexts, WithLasts, WithLives, FirstsUpTo, LastsUpTo, Rooms};
 
 // The regions that begin at the leaf after `passed` others, which have `sum` peptides. How many regions have begun with it.
 fn begin_regions(file: &[u8], passed: u16, sum: u16, begun: u16, lows: &mut [u16]) -> u16
@@ -101,7 +101,7 @@ fn mark_live(live: &mut [u8], from: u16, to: u16, until: u16)
 
 // How far the dead peptides reach with one region more: further if its z is 0 and it ends later.
 fn dead_until(z: u16, high: u16, until: u16) -> u16
-    ensures { λ r. ⌜ r ≡ cond (eqb z 0) (cond (ltb until high) high until) until ⌝ }
+    ensures { λ r. ⌜ Reached z high until r ⌝ }
 {
     if z != 0 {
         return until;
