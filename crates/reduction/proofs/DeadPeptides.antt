@@ -40,6 +40,9 @@ marked-more L M from to until v order room e k =
           (below-next l);
     }
 
+pub marked-less : (L M : List ℕ) (from to until n : ℕ) → n ≤ to → Marked L M from to until → Marked L M from n until
+marked-less L M from to until n h k = record { old = k .old; new = λ p a l. k .new p a (omega arith) }
+
 -- The ranges of a family by number.
 
 abbrev noRange : Family → Range
@@ -170,5 +173,7 @@ module _ (F : Family) (w : WellFormed F) where
 
   -- all regions
   pub all-swept :
-      (settled u : ℕ) (M N : List ℕ) → Swept F (regionCount F) settled u M → Marked M N settled (F .peptides) u → LiveUpTo F (F .peptides) N
-  all-swept settled u M N s marked = settle (regionCount F) settled u (F .peptides) M N (omega arith) s (λ i h l. absurd (omega arith)) marked
+      (k settled u m : ℕ) (M N : List ℕ) → k ≡ regionCount F → m ≡ F .peptides → Swept F k settled u M → Marked M N settled m u
+      → LiveUpTo F (F .peptides) N
+  all-swept k settled u m M N all e s marked p l =
+      settle k settled u m M N (omega arith) s (λ i h j. absurd (omega arith)) marked p (omega arith)

@@ -32,11 +32,11 @@ begins-with new whole room h =
     (λ i l. let small : i < n = omega (arith, length-take-le n whole room) in getD-take n whole i 0 small ∙ h i small) in
     (drop n whole, sym (take-append-drop n whole) ∙ ap (λ (t : List ℕ). t ++ drop n whole) front)
 
-pub begins-at : {new whole : List ℕ} → Begins new whole → (i : ℕ) → i < length new → getD whole i 0 ≡ getD new i 0
-begins-at {new} b i l = rw (b .1) (List·getD-append new (b .0) 0 i l)
+pub begins-at : (new whole : List ℕ) → Begins new whole → (i : ℕ) → i < length new → getD whole i 0 ≡ getD new i 0
+begins-at new whole b i l = rw (b .1) (List·getD-append new (b .0) 0 i l)
 
-pub begins-room : {new whole : List ℕ} → Begins new whole → length new ≤ length whole
-begins-room {new} b = rw (b .1, length-append new (b .0)) (omega arith)
+pub begins-room : (new whole : List ℕ) → Begins new whole → length new ≤ length whole
+begins-room new whole b = rw (b .1, length-append new (b .0)) (omega arith)
 
 -- What is written for every region, in file order.
 
@@ -117,6 +117,6 @@ known-parents F w P b =
     let n = length-tabulate (regionCount F) (parent F) in
     record {
       formed = w;
-      known = λ k l. rw (begins-at b k (omega arith), getD-tabulate (regionCount F) (parent F) 0 k l) (its-parent F w k l);
-      room = omega (arith, begins-room b);
+      known = λ k l. rw (begins-at (tabulate (regionCount F) (parent F)) P b k (omega arith), getD-tabulate (regionCount F) (parent F) 0 k l) (its-parent F w k l);
+      room = omega (arith, begins-room (tabulate (regionCount F) (parent F)) P b);
     }

@@ -68,7 +68,7 @@ nearing-steps m X p a v A some room e n =
           ⊎-elim
           (λ d. rw (← d, getD-set-same A p v 0 room) here)
           (λ d. rw (getD-set-other A p q v 0 (λ c. omega arith)) (n .all q d h))
-          (eq-or-lt-of-le {n = q} (up-from p q l));
+          (eq-or-lt-of-le (up-from p q l));
     }
   where
     here : Next m X p v
@@ -77,8 +77,8 @@ nearing-steps m X p a v A some room e n =
     up-from : (p q : ℕ) → p - 1 < q → p ≤ q
     up-from p q l = omega arith
 
-pub nearing-ends : (m : ℕ) (X : Peptides) (a : ℕ) (A : List ℕ) → Nearing m X 0 a A → Nexts m X A
-nearing-ends m X a A n p l h = n .all p l h
+pub nearing-ends : {m p a : ℕ} {X : Peptides} {A : List ℕ} → p ≡ 0 → Nearing m X p a A → Nexts m X A
+nearing-ends e n q l h = n .all q (omega arith) h
 
 -- The last one up to each number.
 
@@ -104,7 +104,7 @@ passing-steps X p b v B room e n =
       all =
           λ q l.
           ⊎-elim
-          (λ d. rw (d, getD-set-same B (p + 1) v 0 room) here)
+          (λ d. rw d (getD-set-same B (p + 1) v 0 room ∙ here))
           (λ d. getD-set-other B (p + 1) q v 0 (λ c. omega arith) ∙ n .all q (omega arith))
           (eq-or-lt-of-le l);
     }
@@ -140,13 +140,13 @@ module _ (F : Family) (M : List ℕ) (right : LiveUpTo F (F .peptides) M) where
         least = λ q a b t. f .least q a b (selected-live q (omega arith) b ∙ t);
       }
 
+  last-live : (n : ℕ) → n ≤ F .peptides → lastOf n (selected M) ≡ lastOf n (live (rangesOf F))
+  unfolding lastOf
+  last-live zero h = refl
+  last-live (suc n) h = rw (selected-live (suc n) (omega arith) h, last-live n (omega arith))
+
   pub lasts-live : (B : List ℕ) → Lasts (F .peptides) (selected M) B → Lasts (F .peptides) (live (rangesOf F)) B
-  lasts-live B n p h = n p h ∙ same p h
-    where
-      same : (n : ℕ) → n ≤ F .peptides → lastOf n (selected M) ≡ lastOf n (live (rangesOf F))
-      unfolding lastOf
-      same zero h = refl
-      same (suc n) h = rw (selected-live (suc n) (omega arith) h, same n (omega arith))
+  lasts-live B n p h = n p h ∙ last-live p h
 
 -- The first and last live peptide of a region.
 
@@ -176,8 +176,8 @@ module _ (m : ℕ) (R : List Range) (r : Range) where
       ⊎-elim
       (λ z.
       let none : a ≡ 0 = eqb-true a 0 z in
-      rw (t, none)
-      (sym (firstOf-none m (livePeptides R r) (λ p l h e. omega (arith, n .least p (from p e) h (live-in m R r p e .1) .0)))))
+      rw t
+      (none ∙ sym (firstOf-none m (livePeptides R r) (λ p l h e. omega (arith, n .least p (from p e) h (live-in m R r p e .1) .0)))))
       (λ f.
       let some : 1 ≤ a = omega (arith, eqb-false a 0 f) in
       let k = n .member some in

@@ -1,90 +1,96 @@
+-- The loop has settled the peptides up to the low end of the region before k.
+use Prim.Native.Nat.{ℕ, _≤_, _<_, _-_, _+_}
+use native.Mathlib.Omega.{arith}
+use mathlib.Core.Path.{_≡_, refl, sym, _∙_}
+use lib.ListN.{length, getD, length-set}
+use denote.Ref.{now}
+use Rattle.reader.specs.Bytes.{numberAt}
+use Rattle.reader.specs.Family.{familyOf, region, regionCount}
+use Rattle.reader.proofs.Parsed.{peptides-read, regions-read, held-z}
+use Rattle.reduction.proofs.DeadPeptides.{low-high, high-small, Swept, none-swept, swept-more, all-swept}
 use borrow.Author.Needs.{needs}
 use Rattle.reduction.proofs.stretch.find_live.Statement.{statement}
 use Rattle.reduction.proofs.stretch.find_live.Tie as tie
-use Rattle.reduction.proofs.stretch.find_live.Reads as reads
-use Rattle.reduction.proofs.stretch.find_live.Lts as lts
-use Rattle.reader.proofs.bytes.number_at.Reads as number-at-reads
-use Rattle.reader.proofs.family.region_of.Reads as region-of-reads
-use Rattle.reduction.proofs.stretch.dead_until.Reads as dead-until-reads
-use Rattle.reduction.proofs.stretch.mark_live.Reads as mark-live-reads
 
 abbrev Inv-loop : tie.InvT-loop
-Inv-loop file lows highs live₀ regions settled₀ until₀ k₀ live settled until k = ?
+Inv-loop file lows highs live₀ regions settled₀ until₀ k₀ live settled until k =
+    (k ≤ regions) × (regions ≡ numberAt file 8) × (length live ≡ length live₀) × Swept (familyOf file) k settled until live
 
 abbrev μ-loop : tie.MeasureT-loop
-μ-loop file lows highs live₀ regions settled₀ until₀ k₀ live settled until k = ?
+μ-loop file lows highs live₀ regions settled₀ until₀ k₀ live settled until k = regions - k
 
--- src/stretch.rt:118:9
+-- the loop is at a region
+here : (c : tie.In-loop Inv-loop μ-loop) → c .before .loop .k < regionCount (familyOf (now (c .before .before .before .before .before .before .before .args .file)))
+here c = omega (arith, regions-read (now (c .before .before .before .before .before .before .before .args .file)), c .loop-test .taken, c .before .loop .inv .1)
+
 number-at-requires : tie.Need-number-at-requires Inv-loop μ-loop
 number-at-requires c κs = search needs
 
--- src/stretch.rt:122:5
 loop-holds : tie.Need-loop-holds Inv-loop μ-loop
-loop-holds c = search needs
+loop-holds c = (omega arith, c .number-at .ensures, refl, none-swept _ _)
 
--- src/stretch.rt:123:24
 cast-low : tie.Need-cast-low Inv-loop μ-loop
 cast-low c = search needs
 
--- src/stretch.rt:123:19
 mul-low : tie.Need-mul-low Inv-loop μ-loop
 mul-low c = search needs
 
--- src/stretch.rt:123:19
 shared-slice-read-low : tie.Need-shared-slice-read-low Inv-loop μ-loop
-shared-slice-read-low c = search needs
+shared-slice-read-low c = omega (arith, here (c .before), c .before .before .before .before .before .before .before .before .pre .0 .rooms .first)
 
--- src/stretch.rt:124:9
 mark-live-requires : tie.Need-mark-live-requires Inv-loop μ-loop
-mark-live-requires c κs = search needs
+mark-live-requires c κs =
+    let pre = c .before .before .before .before .before .before .before .before .before .pre .0 in
+    let k = c .before .before .before .loop .k in
+    omega (arith, pre .ends .low k (here (c .before .before)), low-high _ (pre .formed) k (here (c .before .before)), high-small _ (pre .formed) k (here (c .before .before)), c .before .before .before .before .before .before .before .before .before .pre .1, c .before .before .before .loop .inv .2)
 
--- src/stretch.rt:126:13
 region-of-requires : tie.Need-region-of-requires Inv-loop μ-loop
 region-of-requires c κs = search needs
 
--- src/stretch.rt:127:39
 cast-dead-until : tie.Need-cast-dead-until Inv-loop μ-loop
 cast-dead-until c = search needs
 
--- src/stretch.rt:127:33
 mul-dead-until : tie.Need-mul-dead-until Inv-loop μ-loop
 mul-dead-until c = search needs
 
--- src/stretch.rt:127:33
 shared-slice-read-dead-until : tie.Need-shared-slice-read-dead-until Inv-loop μ-loop
-shared-slice-read-dead-until c = search needs
+shared-slice-read-dead-until c = omega (arith, here (c .before .before .before .before .before .before .before), c .before .before .before .before .before .before .before .before .before .before .before .before .before .before .pre .0 .rooms .second)
 
--- src/stretch.rt:127:9
 dead-until-requires : tie.Need-dead-until-requires Inv-loop μ-loop
 dead-until-requires c κs = search needs
 
--- src/stretch.rt:128:9
 add-k : tie.Need-add-k Inv-loop μ-loop
-add-k c = search needs
+add-k c = omega (arith, c .before .before .before .before .before .before .before .before .before .before .number-at .ok, c .before .before .before .before .before .before .before .before .loop-test .taken)
 
--- src/stretch.rt:122:5
 loop-less : tie.Need-loop-less Inv-loop μ-loop
 loop-less c = search needs
 
--- src/stretch.rt:122:5
 loop-again : tie.Need-loop-again Inv-loop μ-loop
-loop-again c = search needs
+loop-again c =
+    let pre = c .before .before .before .before .before .before .before .before .before .before .before .before .before .before .before .pre .0 in
+    let inv = c .before .before .before .before .before .before .before .before .before .loop .inv in
+    let k = c .before .before .before .before .before .before .before .before .before .loop .k in
+    let h = here (c .before .before .before .before .before .before .before .before) in (
+      omega (arith, c .before .before .before .before .before .before .before .before .loop-test .taken),
+      inv .1,
+      omega (arith, c .before .before .before .before .before .mark-live .kept .0, inv .2),
+      swept-more _ (pre .formed) k (c .before .before .before .before .before .before .before .before .before .loop .settled) (c .before .before .before .before .before .before .before .before .before .loop .until) _ _ _ _ (c .before .before .before .before .before .before .before .before .before .loop .live) _ h (pre .ends .low k h) (pre .ends .high k h) (held-z _ _ (c .before .before .region-of .ensures)) (c .dead-until .ensures) (inv .3) (c .before .before .before .before .before .mark-live .ensures),
+    )
 
--- src/stretch.rt:130:30
 number-at-requires-2 : tie.Need-number-at-requires-2 Inv-loop μ-loop
 number-at-requires-2 c κs = search needs
 
--- src/stretch.rt:130:5
 mark-live-requires-2 : tie.Need-mark-live-requires-2 Inv-loop μ-loop
-mark-live-requires-2 c κs = search needs
+mark-live-requires-2 c κs = omega (arith, c .number-at2 .ensures, peptides-read (now (c .before .before .before .before .before .before .before .before .before .args .file)), c .before .before .before .before .before .before .before .before .before .pre .1, c .before .before .before .loop .inv .2)
 
--- src/stretch.rt:113:1
 same-length : tie.Need-same-length Inv-loop μ-loop
-same-length c = search needs
+same-length c = c .before .before .mark-live2 .kept .0 ∙ c .before .before .before .before .before .before .loop .inv .2
 
--- src/stretch.rt:113:1
 returns : tie.Need-returns Inv-loop μ-loop
-returns c = search needs
+returns c =
+    let s = now (c .before .before .before .before .before .before .before .before .before .before .before .before .args .file) in
+    let inv = c .before .before .before .before .before .before .loop .inv in
+    all-swept _ (c .before .before .before .before .before .before .before .before .before .before .before .before .pre .0 .formed) (c .before .before .before .before .before .before .loop .k) (c .before .before .before .before .before .before .loop .settled) (c .before .before .before .before .before .before .loop .until) _ (c .before .before .before .before .before .before .loop .live) _ (omega (arith, regions-read s, inv .0, inv .1, c .before .before .before .before .before .loop-test .left)) (c .before .before .before .number-at2 .ensures ∙ sym (peptides-read s)) (inv .3) (c .before .before .mark-live2 .ensures)
 
 pub find-live-spec : {M : Type 1} → statement M
 find-live-spec =

@@ -1,51 +1,52 @@
+-- The loop has written the bytes before p.
+use Prim.Native.Nat.{ℕ, _≤_, _<_, _-_, _+_}
+use native.Mathlib.Omega.{arith}
+use mathlib.Core.Path.{_≡_, refl}
+use lib.ListN.{length, length-set}
+use denote.Ref.{now}
+use Rattle.reduction.specs.Passes.{Marked}
+use Rattle.reduction.proofs.DeadPeptides.{none-marked, marked-more, marked-less}
 use borrow.Author.Needs.{needs}
 use Rattle.reduction.proofs.stretch.mark_live.Statement.{statement}
 use Rattle.reduction.proofs.stretch.mark_live.Tie as tie
-use Rattle.reduction.proofs.stretch.mark_live.Reads as reads
-use Rattle.reduction.proofs.stretch.mark_live.Lts as lts
-use Rattle.reduction.proofs.stretch.live_byte.Reads as live-byte-reads
 
 abbrev Inv-loop : tie.InvT-loop
-Inv-loop live₀ from to until p₀ live p = ?
+Inv-loop live₀ from to until p₀ live p = (from ≤ p) × (length live ≡ length live₀) × Marked live₀ live from p until
 
 abbrev μ-loop : tie.MeasureT-loop
-μ-loop live₀ from to until p₀ live p = ?
+μ-loop live₀ from to until p₀ live p = to - p
 
--- src/stretch.rt:96:5
 loop-holds : tie.Need-loop-holds Inv-loop μ-loop
-loop-holds c = search needs
+loop-holds c = (omega arith, refl, none-marked _ _ _)
 
--- src/stretch.rt:97:28
 live-byte-requires : tie.Need-live-byte-requires Inv-loop μ-loop
 live-byte-requires c κs = search needs
 
--- src/stretch.rt:97:14
 cast-live : tie.Need-cast-live Inv-loop μ-loop
 cast-live c = search needs
 
--- src/stretch.rt:97:9
 slice-write-live : tie.Need-slice-write-live Inv-loop μ-loop
-slice-write-live c = search needs
+slice-write-live c = omega (arith, c .before .before .before .before .pre, c .before .before .loop .inv .1, c .before .loop-test .taken)
 
--- src/stretch.rt:98:9
 add-p : tie.Need-add-p Inv-loop μ-loop
 add-p c = search needs
 
--- src/stretch.rt:96:5
 loop-less : tie.Need-loop-less Inv-loop μ-loop
 loop-less c = search needs
 
--- src/stretch.rt:96:5
 loop-again : tie.Need-loop-again Inv-loop μ-loop
-loop-again c = search needs
+loop-again c =
+    let inv = c .before .before .loop .inv in (
+      omega arith,
+      simp length-set (inv .1),
+      marked-more _ (c .before .before .loop .live) _ (c .before .before .loop .p) _ _ (inv .0) (omega (arith, c .before .before .before .before .pre, inv .1, c .before .loop-test .taken)) (c .live-byte .ensures) (inv .2),
+    )
 
--- src/stretch.rt:91:1
 same-length : tie.Need-same-length Inv-loop μ-loop
 same-length c = search needs
 
--- src/stretch.rt:91:1
 returns : tie.Need-returns Inv-loop μ-loop
-returns c = search needs
+returns c = marked-less _ _ _ (c .before .loop .p) _ _ (c .loop-test .left) (c .before .loop .inv .2)
 
 pub mark-live-spec : {M : Type 1} → statement M
 mark-live-spec =
