@@ -132,9 +132,9 @@ module _ (F : Family) (M : List ℕ) (right : LiveUpTo F (F .peptides) M) where
       ∙ eqb-bit (live (rangesOf F) (p - 1 + 1))
       ∙ ap (live (rangesOf F)) e
 
-  pub nexts-live : (A : List ℕ) → Nexts (F .peptides) (selected M) A → Nexts (F .peptides) (live (rangesOf F)) A
-  nexts-live A n p h l =
-      let f = n p h l in
+  pub nexts-live : (m : ℕ) (A : List ℕ) → m ≡ F .peptides → Nexts m (selected M) A → Nexts (F .peptides) (live (rangesOf F)) A
+  nexts-live m A e n p h l =
+      let f = rw e at (n p h (omega arith)) in
       record {
         member = λ s. let k = f .member s in (k .0, k .1, sym (selected-live (getD A p 0) s (k .1)) ∙ k .2);
         least = λ q a b t. f .least q a b (selected-live q (omega arith) b ∙ t);
@@ -145,8 +145,8 @@ module _ (F : Family) (M : List ℕ) (right : LiveUpTo F (F .peptides) M) where
   last-live zero h = refl
   last-live (suc n) h = rw (selected-live (suc n) (omega arith) h, last-live n (omega arith))
 
-  pub lasts-live : (B : List ℕ) → Lasts (F .peptides) (selected M) B → Lasts (F .peptides) (live (rangesOf F)) B
-  lasts-live B n p h = n p h ∙ last-live p h
+  pub lasts-live : (m : ℕ) (B : List ℕ) → m ≡ F .peptides → Lasts m (selected M) B → Lasts (F .peptides) (live (rangesOf F)) B
+  lasts-live m B e n p h = n p (omega arith) ∙ last-live p h
 
 -- The first and last live peptide of a region.
 

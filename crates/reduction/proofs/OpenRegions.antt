@@ -1,6 +1,7 @@
 -- The pass over the leaves that finds the low and high ends of the regions: which have begun, and which are open.
 use Prim.Native.Nat.{ℕ, zero, suc, _+_, _-_, _<_, _≤_}
 use native.Mathlib.Nat.{eq-or-lt-of-le, add-zero}
+use native.Mathlib.Numerals.{add-one}
 use native.Mathlib.Omega.{arith}
 use mathlib.Core.Bool.{true, false, cond}
 use mathlib.Core.List.{List}
@@ -10,8 +11,9 @@ use lib.ListN.{length, getD, set}
 use lib.Seq.{getD-set-same, getD-set-other}
 use lib.Dec.{eqb}
 use borrow.Author.Tests.{eqb-true, eqb-false}
-use Rattle.reader.specs.Family.{Family, leaves, regionCount, region, peptidesUpTo}
+use Rattle.reader.specs.Family.{Family, leaves, regionCount, region, leafLength, peptidesUpTo}
 use Rattle.reader.specs.WellFormed.{WellFormed, IsParent}
+use Rattle.reader.proofs.Parsed.{length-leaf}
 use Rattle.reader.proofs.Walk.{up-to-next, up-to-end}
 use Rattle.bounds.specs.Ranges.{rangeOf}
 use Rattle.bounds.proofs.Members.{test, le-or-lt}
@@ -35,6 +37,10 @@ more-stored L k v f room old new i l =
     (below-next l)
 
 -- Peptides up to a leaf.
+
+-- the leaf after j others
+pub next-leaf : (F : Family) (j : ℕ) → peptidesUpTo F j + leafLength F (j + 1) ≡ peptidesUpTo F (j + 1)
+next-leaf F j = omega (arith, up-to-next F j, length-leaf F j, ap (leafLength F) (add-one j))
 
 rises-by : (F : Family) (i n : ℕ) → peptidesUpTo F i ≤ peptidesUpTo F (i + n)
 rises-by F i zero = rw add-zero (omega arith)

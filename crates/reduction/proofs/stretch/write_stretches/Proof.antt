@@ -1,59 +1,70 @@
+-- The nearest live peptides from the live bytes, and what is written with them.
+use Prim.Native.Nat.{ℕ, _≤_, _<_, _-_, _+_}
+use native.Mathlib.Omega.{arith}
+use mathlib.Core.Path.{_≡_, sym, _∙_}
+use lib.ListN.{length}
+use denote.Ref.{now}
+use Rattle.reader.specs.Family.{familyOf}
+use Rattle.reader.proofs.Parsed.{peptides-read}
+use Rattle.reduction.proofs.NearestLive.{nexts-live, lasts-live}
 use borrow.Author.Needs.{needs}
 use Rattle.reduction.proofs.stretch.write_stretches.Statement.{statement}
 use Rattle.reduction.proofs.stretch.write_stretches.Tie as tie
-use Rattle.reduction.proofs.stretch.write_stretches.Reads as reads
-use Rattle.reduction.proofs.stretch.write_stretches.Lts as lts
-use Rattle.reader.proofs.bytes.number_at.Reads as number-at-reads
-use Rattle.reduction.proofs.stretch.fill_after.Reads as fill-after-reads
-use Rattle.reduction.proofs.stretch.fill_before.Reads as fill-before-reads
-use Rattle.reduction.proofs.stretch.write_firsts.Reads as write-firsts-reads
-use Rattle.reduction.proofs.stretch.write_lasts.Reads as write-lasts-reads
 
--- src/stretch.rt:231:9
+-- the number that is read is m
+m-read : (c : tie.After-number-at) → c .number-at .result ≡ familyOf (now (c .before .before .before .before .before .before .before .args .file)) .peptides
+m-read c = c .number-at .ensures ∙ sym (peptides-read (now (c .before .before .before .before .before .before .before .args .file)))
+
+m-small : (c : tie.After-number-at) → c .number-at .result ≤ 4096
+m-small c = omega (arith, m-read c, c .before .before .before .before .before .before .before .pre .0 .ended .formed .peptides-most)
+
 number-at-requires : tie.Need-number-at-requires
 number-at-requires c κs = search needs
 
--- src/stretch.rt:233:25
 slice-aggregate-fill-after : tie.Need-slice-aggregate-fill-after
 slice-aggregate-fill-after c = search needs
 
--- src/stretch.rt:233:5
 fill-after-requires : tie.Need-fill-after-requires
-fill-after-requires c κs = search needs
+fill-after-requires c κs = record { few = m-small (c .before); bytes = omega (arith, m-read (c .before), c .before .before .before .before .before .before .before .before .pre .0 .bytes); places = omega (arith, m-small (c .before)) }
 
--- src/stretch.rt:234:37
 slice-aggregate-write-firsts : tie.Need-slice-aggregate-write-firsts
 slice-aggregate-write-firsts c = search needs
 
--- src/stretch.rt:234:5
 write-firsts-requires : tie.Need-write-firsts-requires
-write-firsts-requires c κs = search needs
+write-firsts-requires c κs =
+    let pre = c .before .before .before .before .before .before .before .before .before .before .before .before .pre in
+    record {
+      ended = pre .0 .ended;
+      nexts = nexts-live _ _ (pre .0 .lives) _ (c .before .before .before .fill-after .last .1 .1 .0) (m-read (c .before .before .before .before .before)) (c .before .before .before .fill-after .ensures);
+      places = omega (arith, m-read (c .before .before .before .before .before), m-small (c .before .before .before .before .before), c .before .before .before .fill-after .kept .1 .1 .0);
+      room = pre .1 .first;
+    }
 
--- src/stretch.rt:236:26
 slice-aggregate-fill-before : tie.Need-slice-aggregate-fill-before
 slice-aggregate-fill-before c = search needs
 
--- src/stretch.rt:236:5
 fill-before-requires : tie.Need-fill-before-requires
-fill-before-requires c κs = search needs
+fill-before-requires c κs = record { few = m-small (c .before .before .before .before .before .before .before .before .before); bytes = omega (arith, m-read (c .before .before .before .before .before .before .before .before .before), c .before .before .before .before .before .before .before .before .before .before .before .before .before .before .before .before .pre .0 .bytes); places = omega (arith, m-small (c .before .before .before .before .before .before .before .before .before)) }
 
--- src/stretch.rt:237:36
 slice-aggregate-write-lasts : tie.Need-slice-aggregate-write-lasts
 slice-aggregate-write-lasts c = search needs
 
--- src/stretch.rt:237:5
 write-lasts-requires : tie.Need-write-lasts-requires
-write-lasts-requires c κs = search needs
+write-lasts-requires c κs =
+    let pre = c .before .before .before .before .before .before .before .before .before .before .before .before .before .before .before .before .before .before .before .before .pre in
+    record {
+      ended = pre .0 .ended;
+      lasts = lasts-live _ _ (pre .0 .lives) _ (c .before .before .before .fill-before .last .1 .1 .0) (m-read (c .before .before .before .before .before .before .before .before .before .before .before .before .before)) (c .before .before .before .fill-before .ensures);
+      places = omega (arith, m-read (c .before .before .before .before .before .before .before .before .before .before .before .before .before), m-small (c .before .before .before .before .before .before .before .before .before .before .before .before .before), c .before .before .before .fill-before .kept .1 .1 .0);
+      room = pre .1 .second;
+    }
 
--- src/stretch.rt:225:1
 same-length : tie.Need-same-length
 same-length c = search needs
 
--- src/stretch.rt:225:1
 same-length-2 : tie.Need-same-length-2
 same-length-2 c = search needs
 
--- src/stretch.rt:225:1
 returns : tie.Need-returns
 returns c = search needs
 
