@@ -16,7 +16,7 @@ use Rattle.reduction.specs.Steps.{firstLive, lastLive}
 abbrev pub range : Family → ℕ → Range
 range F k = rangeOf F (region F k)
 
--- The low and high ends, in one pass over the leaves. Where j leaves are passed:
+-- The low and high ends, in one pass over the leaves.
 
 -- the first k regions begin at leaf j or before, and their low ends stand in the list
 pub record Lowered (F : Family) (j k : ℕ) (L : List ℕ) : Type 0 where
@@ -82,7 +82,7 @@ pub record Ended (F : Family) (L H : List ℕ) : Type 0 where
 
 -- The live peptides, in one pass over the regions and the peptides.
 
--- the peptide after p others is live if it is not among the first `until`; so it is written from one place to another
+-- M is L with the bytes from one place to another written anew: 0 for the first `until` peptides, 1 for those after them
 pub record Marked (L M : List ℕ) (from to until : ℕ) : Type 0 where
   pub old : (p : ℕ) → p < from → getD M p 0 ≡ getD L p 0
   pub new : (p : ℕ) → from ≤ p → p < to → getD M p 0 ≡ cond (ltb p until) 0 1
@@ -119,24 +119,27 @@ pub record Spacious (m : ℕ) (L A : List ℕ) : Type 0 where
 
 -- The first and last live peptide of each region.
 
--- what is known where the first ones are written, with the list A of the first live peptide from each on
+-- the live bytes are known
+pub record WithLives (F : Family) (L H M : List ℕ) : Type 0 where
+  pub ended : Ended F L H
+  pub lives : LiveUpTo F (F .peptides) M
+  pub bytes : F .peptides ≤ length M
+
+-- the first live peptide from each peptide on is known, and there is room for the first ones of the regions
 pub record WithNexts (F : Family) (L H A C : List ℕ) : Type 0 where
   pub ended : Ended F L H
   pub nexts : Nexts (F .peptides) (live (rangesOf F)) A
   pub places : F .peptides + 1 < length A
   pub room : regionCount F ≤ length C
 
+-- the last live peptide up to each peptide is known, and there is room for the last ones of the regions
 pub record WithLasts (F : Family) (L H B C : List ℕ) : Type 0 where
   pub ended : Ended F L H
   pub lasts : Lasts (F .peptides) (live (rangesOf F)) B
   pub places : F .peptides + 1 < length B
   pub room : regionCount F ≤ length C
 
-pub record WithLives (F : Family) (L H M : List ℕ) : Type 0 where
-  pub ended : Ended F L H
-  pub lives : LiveUpTo F (F .peptides) M
-  pub bytes : F .peptides ≤ length M
-
+-- those of the first k regions are right
 abbrev pub FirstsUpTo : Family → ℕ → List ℕ → Type 0
 FirstsUpTo F k A = (i : ℕ) → i < k → getD A i 0 ≡ firstLive F (range F i)
 

@@ -7,14 +7,15 @@ use reader::family::region_of;
 ghost use mathlib.Core.Path.{_≡_};
 ghost use mathlib.Core.Bool.{cond};
 ghost use Prim.Native.Nat.{_+_, _≤_};
-ghost use lib.ListN.{length, getD};
+ghost use lib.ListN.{length};
 ghost use lib.Dec.{eqb, leb, ltb};
 ghost use Rattle.reader.specs.Family.{familyOf, regionCount};
 ghost use Rattle.bounds.specs.Selections.{selected};
 ghost use Rattle.reduction.specs.Steps.{Parented, Stretched};
 ghost use Rattle.reduction.specs.Passes.{Beginning, Began, Open, Ending, Known, Roomy, Ends, Ended, Marked, Reached, LiveUpTo, Spacious, Nexts, Lasts, WithNexts, WithLasts, WithLives, FirstsUpTo, LastsUpTo, Rooms};
 
-// The regions that begin at the leaf after `passed` others, which have `sum` peptides. How many regions have begun with it.
+// Writes the low ends of the regions that begin at the leaf after the passed ones, which have `sum` peptides.
+// The number of regions that have begun.
 fn begin_regions(file: &[u8], passed: u16, sum: u16, begun: u16, lows: &mut [u16]) -> u16
     requires { ⌜ Beginning (familyOf (now file)) passed sum begun (now lows) ⌝ }
     ensures { λ r. ⌜ Began (familyOf (now (file .entry))) (passed + 1) begun r (now (lows .exit)) ⌝ }
@@ -40,9 +41,16 @@ fn innermost(before: u16, begun: u16, outer: u16) -> u16
     if before == begun { outer } else { begun }
 }
 
-// The regions that end at the leaf, up to which there are `sum` peptides: the innermost open one and so on along the
-// parents. The number of the region that stays open.
-fn end_regions(file: &[u8], parents: &[u16], leaf: u16, sum: u16, inner: u16, highs: &mut [u16]) -> u16
+// Writes the high ends of the regions that end at the leaf, up to which there are `sum` peptides: the innermost open
+// region, then its parents, since what is around an open region is open. The number of the innermost one that stays open.
+fn end_regions(
+    file: &[u8],
+    parents: &[u16],
+    leaf: u16,
+    sum: u16,
+    inner: u16,
+    highs: &mut [u16],
+) -> u16
     requires { ⌜ Ending (familyOf (now file)) (now parents) leaf sum inner (now highs) ⌝ }
     ensures { λ r. ⌜ Open (familyOf (now (file .entry))) leaf (leaf + 1) (now (highs .exit)) r ⌝ }
 {
@@ -59,7 +67,7 @@ fn end_regions(file: &[u8], parents: &[u16], leaf: u16, sum: u16, inner: u16, hi
     0
 }
 
-// The low and high ends of every region.
+// The low and high ends of every region. Each begins and ends once, so the pass is linear in leaves and regions.
 fn find_ends(file: &[u8], parents: &[u16], lows: &mut [u16], highs: &mut [u16])
     requires { ⌜ Known (familyOf (now file)) (now parents) ⌝ }
     requires { ⌜ Roomy (familyOf (now file)) (now lows) (now highs) ⌝ }
@@ -136,10 +144,14 @@ fn live_or(live: &[u8], p: u16, other: u16) -> u16
     requires { ⌜ p ≤ length (now live) ⌝ }
     ensures { λ r. ⌜ r ≡ cond (selected (now (live .entry)) p) p other ⌝ }
 {
-    if live[(p - 1) as usize] == 1 { p } else { other }
+    if live[(p - 1) as usize] == 1 {
+        p
+    } else {
+        other
+    }
 }
 
-// For each peptide the last live one up to it.
+// For each peptide the last live one up to it; 0 if there is none.
 fn fill_before(live: &[u8], m: u16, before: &mut [u16])
     requires { ⌜ Spacious m (now live) (now before) ⌝ }
     ensures { λ _. ⌜ Lasts m (selected (now (live .entry))) (now (before .exit)) ⌝ }
@@ -154,7 +166,7 @@ fn fill_before(live: &[u8], m: u16, before: &mut [u16])
     }
 }
 
-// For each peptide the first live one from it on.
+// For each peptide the first live one from it on; 0 if there is none.
 fn fill_after(live: &[u8], m: u16, after: &mut [u16])
     requires { ⌜ Spacious m (now live) (now after) ⌝ }
     ensures { λ _. ⌜ Nexts m (selected (now (live .entry))) (now (after .exit)) ⌝ }
@@ -222,7 +234,14 @@ fn write_lasts(file: &[u8], lows: &[u16], highs: &[u16], before: &[u16], lasts: 
 }
 
 // The first and last live peptide of each region, given the ends of the regions and the live peptides.
-fn write_stretches(file: &[u8], lows: &[u16], highs: &[u16], live: &[u8], firsts: &mut [u16], lasts: &mut [u16])
+fn write_stretches(
+    file: &[u8],
+    lows: &[u16],
+    highs: &[u16],
+    live: &[u8],
+    firsts: &mut [u16],
+    lasts: &mut [u16],
+)
     requires { ⌜ WithLives (familyOf (now file)) (now lows) (now highs) (now live) ⌝ }
     requires { ⌜ Roomy (familyOf (now file)) (now firsts) (now lasts) ⌝ }
     ensures { λ _. ⌜ FirstsUpTo (familyOf (now (file .entry))) (regionCount (familyOf (now (file .entry)))) (now (firsts .exit)) ⌝ }
@@ -238,7 +257,13 @@ fn write_stretches(file: &[u8], lows: &[u16], highs: &[u16], live: &[u8], firsts
 }
 
 // The live peptides, and the first and last live peptide of each region with z ≥ 1.
-pub(crate) fn find_stretches(file: &[u8], parents: &[u16], live: &mut [u8], firsts: &mut [u16], lasts: &mut [u16])
+pub(crate) fn find_stretches(
+    file: &[u8],
+    parents: &[u16],
+    live: &mut [u8],
+    firsts: &mut [u16],
+    lasts: &mut [u16],
+)
     requires { ⌜ Parented (now file) (now parents) ⌝ }
     requires { ⌜ Rooms (now file) (now live) (now firsts) (now lasts) ⌝ }
     ensures { λ _. ⌜ Stretched (now (file .entry)) (now (live .exit)) (now (firsts .exit)) (now (lasts .exit)) ⌝ }

@@ -1,11 +1,11 @@
 -- The loop has begun the regions before k, all at the leaf after the passed ones or before it.
-use Prim.Native.Nat.{ℕ, _≤_, _<_, _-_, _+_}
+use Prim.Native.Nat.{_≤_, _-_, _+_}
 use native.Mathlib.Omega.{arith}
 use mathlib.Core.Path.{_≡_, refl, sym, _∙_}
 use lib.ListN.{length, length-set}
 use denote.Ref.{now}
 use Rattle.reader.specs.Bytes.{numberAt}
-use Rattle.reader.specs.Family.{familyOf, region, regionCount}
+use Rattle.reader.specs.Family.{familyOf}
 use Rattle.reader.proofs.Parsed.{regions-read, held-first}
 use Rattle.reduction.specs.Passes.{Lowered}
 use Rattle.reduction.proofs.OpenRegions.{still-begun, one-begins, all-begun}

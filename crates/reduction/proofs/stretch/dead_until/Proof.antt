@@ -1,6 +1,6 @@
 -- A region with z ≥ 1 changes nothing; one with z = 0 counts if it ends later.
 use native.Mathlib.Omega.{arith}
-use mathlib.Core.Path.{_≡_, refl}
+use mathlib.Core.Path.{refl}
 use mathlib.Core.Logic.{inl, inr}
 use Rattle.reduction.proofs.stretch.dead_until.Statement.{statement}
 use Rattle.reduction.proofs.stretch.dead_until.Tie as tie

@@ -1,10 +1,9 @@
 -- The loop has ended the regions inside the open one, which reaches the leaf.
-use Prim.Native.Nat.{ℕ, _≤_, _<_, _-_, _+_}
+use Prim.Native.Nat.{_≤_, _-_}
 use native.Mathlib.Omega.{arith}
 use mathlib.Core.Path.{_≡_, refl, sym, subst, _∙_}
 use lib.ListN.{length, length-set}
-use denote.Ref.{now}
-use Rattle.reader.specs.Family.{familyOf, region, regionCount}
+use Rattle.reader.specs.Family.{familyOf}
 use Rattle.reader.proofs.Parsed.{held-last}
 use Rattle.reduction.specs.Passes.{Open}
 use Rattle.reduction.proofs.OpenRegions.{one-ends, none-ends}

@@ -1,8 +1,8 @@
 -- The loop has settled the peptides up to the low end of the region before k.
-use Prim.Native.Nat.{ℕ, _≤_, _<_, _-_, _+_}
+use Prim.Native.Nat.{_≤_, _<_, _-_}
 use native.Mathlib.Omega.{arith}
 use mathlib.Core.Path.{_≡_, refl, sym, _∙_}
-use lib.ListN.{length, getD, length-set}
+use lib.ListN.{length}
 use denote.Ref.{now}
 use Rattle.reader.specs.Bytes.{numberAt}
 use Rattle.reader.specs.Family.{familyOf, region, regionCount}

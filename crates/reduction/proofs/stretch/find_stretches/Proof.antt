@@ -1,9 +1,6 @@
 -- The ends of the regions, then the live peptides, then the stretches.
-use Prim.Native.Nat.{ℕ, _≤_}
+use Prim.Native.Nat.{_≤_}
 use native.Mathlib.Omega.{arith}
-use mathlib.Core.List.{List}
-use mathlib.Core.Path.{_≡_, _∙_}
-use lib.ListN.{length}
 use denote.Ref.{now}
 use Rattle.reader.specs.Family.{Family, familyOf, regionCount}
 use Rattle.reader.specs.WellFormed.{WellFormed}

@@ -1,6 +1,5 @@
 -- The byte of the peptide is 1 exactly if the peptide is selected.
-use native.Mathlib.Omega.{arith}
-use mathlib.Core.Path.{_≡_, _∙_}
+use mathlib.Core.Path.{_∙_}
 use borrow.Author.Tests.{eq-eqb, ne-eqb}
 use lib.ListN.{getD}
 use Prim.Native.Nat.{_-_}

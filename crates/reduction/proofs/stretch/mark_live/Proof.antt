@@ -1,9 +1,8 @@
 -- The loop has written the bytes before p.
-use Prim.Native.Nat.{ℕ, _≤_, _<_, _-_, _+_}
+use Prim.Native.Nat.{_≤_, _-_}
 use native.Mathlib.Omega.{arith}
 use mathlib.Core.Path.{_≡_, refl}
 use lib.ListN.{length, length-set}
-use denote.Ref.{now}
 use Rattle.reduction.specs.Passes.{Marked}
 use Rattle.reduction.proofs.DeadPeptides.{none-marked, marked-more, marked-less}
 use borrow.Author.Needs.{needs}

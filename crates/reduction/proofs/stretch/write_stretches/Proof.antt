@@ -1,8 +1,7 @@
 -- The nearest live peptides from the live bytes, and what is written with them.
-use Prim.Native.Nat.{ℕ, _≤_, _<_, _-_, _+_}
+use Prim.Native.Nat.{_≤_, _-_}
 use native.Mathlib.Omega.{arith}
 use mathlib.Core.Path.{_≡_, sym, _∙_}
-use lib.ListN.{length}
 use denote.Ref.{now}
 use Rattle.reader.specs.Family.{familyOf}
 use Rattle.reader.proofs.Parsed.{peptides-read}
