@@ -35,6 +35,11 @@ pub mod Depth
 pub mod Cuts
 pub mod FewerLeaves
 pub mod Accepted
+-- the passes of the code that finds the stretches
+pub mod OpenRegions
+pub mod DeadPeptides
+pub mod NearestLive
+pub mod ListFronts
 -- the one form
 pub mod Curves
 pub mod OneForm
