@@ -8,8 +8,7 @@ use lib.Dec.{leb}
 use Rattle.reader.specs.Lists.{someBelow, firstBelow}
 use Rattle.reader.specs.Family.{Family, familyOf, regionCount, region, leafOf}
 use Rattle.reader.specs.Causes.{Cause, firstCause, fileCauses}
-use Rattle.reader.specs.WellFormed.{WellFormed}
-use Rattle.reader.specs.Climb.{Nested}
+use Rattle.reader.specs.WellFormed.{WellFormed, Nested}
 use Rattle.bounds.specs.Curves.{cause11, cause12, repeated}
 use Rattle.bounds.specs.Calls.{pathCauses}
 use Rattle.bounds.specs.Paths.{IsPath}

@@ -13,8 +13,7 @@ ghost use Prim.Native.Nat.{ℕ, _+_, _*_, _<_, _≤_};
 ghost use lib.ListN.{length, getD, drop};
 ghost use lib.Dec.{leb};
 ghost use Rattle.reader.specs.Family.{Family, familyOf, regionCount};
-ghost use Rattle.reader.specs.WellFormed.{Ordered};
-ghost use Rattle.reader.specs.Climb.{Nested};
+ghost use Rattle.reader.specs.WellFormed.{Ordered, Nested};
 ghost use Rattle.bounds.specs.Curves.{curveValues, curveMarks, cutOf};
 ghost use Rattle.bounds.specs.Walks.{Walkable, Begun, LastHolding, crowded, CountedOne, Stepped};
 

@@ -22,8 +22,9 @@ use Rattle.bounds.specs.Curves.{curveValues, curveMarks, entry, markAt, cause11
 use Rattle.bounds.specs.declared.Curved.{Curved}
 use Rattle.bounds.specs.declared.Curved.the-variants as curved
 use Rattle.bounds.specs.Calls.{Answers, reportCurve, declinedCurve, short, pathCauses, curveCauses}
+use Rattle.bounds.specs.Walks.{inputCauses}
 use Rattle.curve.specs.Text.{heading, rows, rowAt, lineOf, tableOf, refusal}
-use Rattle.curve.specs.Program.{pathOf, odd, programCauses, textOf, curveInputs, output}
+use Rattle.curve.specs.Program.{pathOf, odd, programCauses, textOf, output}
 
 -- The number.
 
@@ -37,8 +38,8 @@ module _ (s bytes : List ℕ) where
   odd-path a o = join-clear (fileCauses s) _ (file-numbered s) a ∙ rw o
 
   -- with an even byte count the program's causes are those of the family and the path
-  pub even-path : odd bytes ≡ false → output s bytes ≡ textOf (firstCause (curveInputs s (pathOf bytes))) s (pathOf bytes)
-  unfolding output programCauses curveInputs pathCauses
+  pub even-path : odd bytes ≡ false → output s bytes ≡ textOf (firstCause (inputCauses s (pathOf bytes))) s (pathOf bytes)
+  unfolding output programCauses inputCauses pathCauses
   even-path o = rw o
 
   pub odd-text : (n : ℕ) → odd bytes ≡ true → n ≡ firstCause (programCauses s bytes) → (n ≡ 0 → ⊥) → output s bytes ≡ refusal n
@@ -52,8 +53,8 @@ module _ (s bytes : List ℕ) where
       (λ r. r (sym (refused-family r) ∙ z))
       (none-or-some (fileCauses s))
 
-inputs-numbered : (s path : List ℕ) → Numbered (curveInputs s path)
-unfolding curveInputs fileCauses headerCauses familyCauses pathCauses
+inputs-numbered : (s path : List ℕ) → Numbered (inputCauses s path)
+unfolding inputCauses fileCauses headerCauses familyCauses pathCauses
 inputs-numbered s path = omega arith
 
 room :
@@ -64,19 +65,19 @@ room path values marks lv lm few =
     rw (or-neither (short (length path + 1) values) (short (length path) marks) (le-ltb (length values) (length path + 1) (omega arith)) (le-ltb (length marks) (length path) (omega arith)))
 
 module _ (s path : List ℕ) where
-  pub prints-refusal : (n : ℕ) → n ≡ firstCause (curveInputs s path) → (n ≡ 0 → ⊥) → textOf (firstCause (curveInputs s path)) s path ≡ refusal n
+  pub prints-refusal : (n : ℕ) → n ≡ firstCause (inputCauses s path) → (n ≡ 0 → ⊥) → textOf (firstCause (inputCauses s path)) s path ≡ refusal n
   unfolding textOf
   prints-refusal n e h = rw (← e, ne-eqb n 0 h)
 
   pub prints-table :
-      firstCause (curveInputs s path) ≡ 0
-      → textOf (firstCause (curveInputs s path)) s path ≡ tableOf path (curveValues (familyOf s) path) (curveMarks (familyOf s) path)
+      firstCause (inputCauses s path) ≡ 0
+      → textOf (firstCause (inputCauses s path)) s path ≡ tableOf path (curveValues (familyOf s) path) (curveMarks (familyOf s) path)
   unfolding textOf
   prints-table h = rw h
 
   -- a path without a cause has at most 4,096 peptides
-  pub short-path : firstCause (curveInputs s path) ≡ 0 → length path ≤ 4096
-  unfolding curveInputs pathCauses cause11
+  pub short-path : firstCause (inputCauses s path) ≡ 0 → length path ≤ 4096
+  unfolding inputCauses pathCauses cause11
   short-path h =
       let a : Accepted s = clear-left (fileCauses s) _ (file-numbered s) h in
       let rest = clear-right (fileCauses s) _ (file-numbered s) h in
@@ -86,15 +87,15 @@ module _ (s path : List ℕ) where
       omega (arith, ltb-false m (length path) (few .0))
 
   -- the values and the marks have room, so the curve has no cause of its own
-  pub curve-number : (values marks : List ℕ) → 4097 ≤ length values → 4096 ≤ length marks → firstCause (curveCauses s path values marks) ≡ firstCause (curveInputs s path)
-  unfolding curveCauses curveInputs
+  pub curve-number : (values marks : List ℕ) → 4097 ≤ length values → 4096 ≤ length marks → firstCause (curveCauses s path values marks) ≡ firstCause (inputCauses s path)
+  unfolding curveCauses inputCauses
   curve-number values marks lv lm =
       let last : Cause = record { number = 16; holds = short (length path + 1) values || short (length path) marks } in
       ap firstCause (sym (append-assoc (fileCauses s) (pathCauses (familyOf s .peptides) path) (last ∷ [])))
       ∙ ⊎-elim
-      (λ z. join-clear (curveInputs s path) (last ∷ []) (inputs-numbered s path) z ∙ room path values marks lv lm (short-path z) ∙ sym z)
-      (λ r. join-holds (curveInputs s path) (last ∷ []) r)
-      (none-or-some (curveInputs s path))
+      (λ z. join-clear (inputCauses s path) (last ∷ []) (inputs-numbered s path) z ∙ room path values marks lv lm (short-path z) ∙ sym z)
+      (λ r. join-holds (inputCauses s path) (last ∷ []) r)
+      (none-or-some (inputCauses s path))
 
 -- A table reads the values and the marks of its lines only.
 

@@ -10,7 +10,6 @@ use Rattle.reader.specs.Bytes.{numberAt}
 use Rattle.reader.specs.Family.{Family, familyOf}
 use Rattle.reader.specs.Causes.{Cause, firstCause, fileCauses}
 use Rattle.bounds.specs.Curves.{curveValues, curveMarks, cause11, cause12, cause13}
-use Rattle.bounds.specs.Calls.{pathCauses}
 use Rattle.curve.specs.Text.{tableOf, refusal}
 
 -- the numbers of the path file, 2 bytes each, low byte first
@@ -45,7 +44,3 @@ output family bytes = textOf (firstCause (programCauses family bytes)) family (p
 pub record Decoded (bytes numbers : List ℕ) (n : ℕ) : Type 0 where
   pub count : n ≡ length bytes / 2
   pub path : take n numbers ≡ pathOf bytes
-
--- the causes of a family and a path
-unfoldable pub curveInputs : List ℕ → List ℕ → List Cause
-curveInputs family path = fileCauses family ++ pathCauses (familyOf family .peptides) path

@@ -11,8 +11,9 @@ ghost use Prim.Native.Nat.{ℕ, _≤_};
 ghost use lib.ListN.{length};
 ghost use lib.Dec.{eqb};
 ghost use Rattle.reader.specs.Causes.{firstCause};
+ghost use Rattle.bounds.specs.Walks.{inputCauses};
 ghost use Rattle.curve.specs.Appends.{Appends};
-ghost use Rattle.curve.specs.Program.{programCauses, odd, textOf, curveInputs, output};
+ghost use Rattle.curve.specs.Program.{programCauses, odd, textOf, output};
 
 // The number of a refusal where the path has an odd byte count: the family's, if it has one, comes before it.
 fn odd_path_number(family: &[u8]) -> u16
@@ -31,7 +32,7 @@ fn odd_path_number(family: &[u8]) -> u16
 // The text for a path: the curve's table, or the number of its refusal.
 fn print_curve(family: &[u8], path: &[u16], out: &mut [u8]) -> usize
     requires { ⌜ 98349 ≤ length (now out) ⌝ }
-    ensures { λ r. ⌜ Appends (now (out .entry)) 0 (now (out .exit)) r (textOf (firstCause (curveInputs (now (family .entry)) (now (path .entry)))) (now (family .entry)) (now (path .entry))) ⌝ }
+    ensures { λ r. ⌜ Appends (now (out .entry)) 0 (now (out .exit)) r (textOf (firstCause (inputCauses (now (family .entry)) (now (path .entry)))) (now (family .entry)) (now (path .entry))) ⌝ }
 {
     let mut values = [0u16; 4097];
     let mut marks = [0u8; 4096];

@@ -35,14 +35,6 @@ pub record Filled (F : Family) (P : List ℕ) (crossing : Bool) : Type 0 where
 unfoldable pub oneDeeper : List ℕ → ℕ → ℕ
 oneDeeper D c = cond (eqb c 0) 0 (suc (getD D (c - 1) 0))
 
--- what is known where the depths are counted
-pub record Nested (F : Family) (P : List ℕ) : Type 0 where
-  pub ordered : Ordered F
-  pub nested : NestedBelow F (regionCount F)
-  pub known : ParentsBelow F P (regionCount F)
-  pub few : regionCount F ≤ 8191
-  pub room : regionCount F ≤ length P
-
 pub record FamilyJudged (F : Family) (P : List ℕ) (number : ℕ) : Type 0 where
   pub tested : number ≡ firstCause (familyCauses F)
   pub parents : number ≡ 0 → ParentsBelow F P (regionCount F)

@@ -3,7 +3,7 @@ use Prim.Native.Nat.{ℕ, suc, _+_, _*_, _-_, _<_, _≤_}
 use mathlib.Core.List.{List}
 use mathlib.Core.Logic.{_⊎_}
 use mathlib.Core.Path.{_≡_}
-use lib.ListN.{getD}
+use lib.ListN.{length, getD}
 use Rattle.reader.specs.Lists.{sum}
 use Rattle.reader.specs.Family.{Family, leaves, regionCount, region}
 use Rattle.reader.specs.Nesting.{regionsAround}
@@ -43,3 +43,11 @@ pub record IsParent (F : Family) (k c : ℕ) : Type 0 where
 -- the list holds the parents of the first n regions
 abbrev pub ParentsBelow : Family → List ℕ → ℕ → Type 0
 ParentsBelow F P n = (k : ℕ) → k < n → IsParent F k (getD P k 0)
+
+-- The regions are in order and nested, and the list holds the parent of each.
+pub record Nested (F : Family) (P : List ℕ) : Type 0 where
+  pub ordered : Ordered F
+  pub nested : NestedBelow F (regionCount F)
+  pub known : ParentsBelow F P (regionCount F)
+  pub few : regionCount F ≤ 8191
+  pub room : regionCount F ≤ length P

@@ -7,8 +7,8 @@ ghost use Prim.Native.Nat.{ℕ, _<_, _≤_};
 ghost use lib.ListN.{length, getD};
 ghost use Rattle.reader.specs.Family.{familyOf, region, regionCount};
 ghost use Rattle.reader.specs.Causes.{cause10};
-ghost use Rattle.reader.specs.WellFormed.{Ordered};
-ghost use Rattle.reader.specs.Climb.{Climbing, Climbed, endsBefore, Filled, oneDeeper, Nested};
+ghost use Rattle.reader.specs.WellFormed.{Ordered, Nested};
+ghost use Rattle.reader.specs.Climb.{Climbing, Climbed, endsBefore, Filled, oneDeeper};
 
 // The number of the innermost region before the k-th one that ends at its first leaf or later; 0 if there is none.
 fn climb(file: &[u8], parents: &[u16], k: u16, first: u16) -> u16

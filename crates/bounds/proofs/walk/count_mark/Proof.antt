@@ -6,7 +6,7 @@ use lib.ListN.{length, getD, length-set}
 use lib.Seq.{getD-set-other}
 use denote.Ref.{now}
 use Rattle.reader.specs.Family.{Family}
-use Rattle.reader.specs.Climb.{Nested}
+use Rattle.reader.specs.WellFormed.{Nested}
 use Rattle.bounds.specs.Walks.{LastHolding}
 use Rattle.bounds.proofs.Holding.{Chain, chain-starts, chain-next, CountedFrom, counted-starts, counted-steps, counted-ends}
 use borrow.Author.Needs.{needs}

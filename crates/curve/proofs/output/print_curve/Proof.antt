@@ -11,20 +11,20 @@ use Rattle.reader.proofs.First.{writes}
 use Rattle.bounds.specs.Curves.{curveValues, curveMarks}
 use Rattle.bounds.specs.Calls.{curveCauses}
 use Rattle.curve.specs.Text.{tableOf}
-use Rattle.curve.specs.Program.{curveInputs}
+use Rattle.bounds.specs.Walks.{inputCauses}
 use Rattle.curve.proofs.Printing.{curve-number, short-path, prints-refusal, prints-table, table-same, values-room, marks-room, written-clear, refused-some, refused-number, repeated-number}
 use borrow.Author.Needs.{needs}
 use Rattle.curve.proofs.output.print_curve.Statement.{statement}
 use Rattle.curve.proofs.output.print_curve.Tie as tie
 
 -- the causes of the curve with the zeros that are lent to it are those of the family and the path
-same : (s path : List ℕ) → firstCause (curveCauses s path (replicate 4097 0) (replicate 4096 0)) ≡ firstCause (curveInputs s path)
+same : (s path : List ℕ) → firstCause (curveCauses s path (replicate 4097 0) (replicate 4096 0)) ≡ firstCause (inputCauses s path)
 same s path = curve-number s path (replicate 4097 0) (replicate 4096 0) (omega (arith, length-replicate {A = ℕ} 4097 0)) (omega (arith, length-replicate {A = ℕ} 4096 0))
 
 unchecked : (c : tie.After-enum-told) → firstCause (curveCauses (now (c .before .before .before .before .before .before .before .before .before .before .args .family)) (now (c .before .before .before .before .before .before .before .before .before .before .args .path)) (replicate 4097 0) (replicate 4096 0)) ≡ 0
 unchecked c = written-clear _ _ (c .before .before .before .before .curve .ensures .1 .1 .1) (c .enum-told .given .1)
 
-clear : (c : tie.After-enum-told) → firstCause (curveInputs (now (c .before .before .before .before .before .before .before .before .before .before .args .family)) (now (c .before .before .before .before .before .before .before .before .before .before .args .path))) ≡ 0
+clear : (c : tie.After-enum-told) → firstCause (inputCauses (now (c .before .before .before .before .before .before .before .before .before .before .args .family)) (now (c .before .before .before .before .before .before .before .before .before .before .args .path))) ≡ 0
 clear c = sym (same (now (c .before .before .before .before .before .before .before .before .before .before .args .family)) (now (c .before .before .before .before .before .before .before .before .before .before .args .path))) ∙ unchecked c
 
 slice-aggregate-curve : tie.Need-slice-aggregate-curve
