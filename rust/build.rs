@@ -6,7 +6,10 @@ fn main() {
     let archive = folder.join("libphf.a");
     println!("cargo:rerun-if-changed={}", archive.display());
     if !archive.exists() {
-        panic!("{} is missing: run `rt staticlib phf` first", archive.display());
+        panic!(
+            "{} is missing: run `rt staticlib phf` first",
+            archive.display()
+        );
     }
     println!("cargo:rustc-link-search=native={}", folder.display());
     println!("cargo:rustc-link-lib=static=phf");

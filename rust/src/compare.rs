@@ -46,7 +46,13 @@ pub fn check(file: &[u8]) -> u16 {
                 regions: 0,
             };
             assert_eq!(answer, expected);
-            assert_eq!(part, phf::Part { offset: 0, length: 0 });
+            assert_eq!(
+                part,
+                phf::Part {
+                    offset: 0,
+                    length: 0
+                }
+            );
         }
     }
     assert_eq!(lent.returned(), file, "the file was written");

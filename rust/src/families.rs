@@ -215,11 +215,7 @@ pub fn damage(random: &mut Random, kind: usize, file: &mut Vec<u8>) {
         3 => put(file, 6, [0, m, m + 1, 65535][random.below(4)]),
         4 => put(file, 8, [2 * n - n.min(1), 2 * n, 65535][random.below(3)]),
         5 => put(file, 10, [15, 17, 0, 16][random.below(4)]),
-        6 => put(
-            file,
-            12,
-            (16 + 2 * n + random.below(3)).saturating_sub(1),
-        ),
+        6 => put(file, 12, (16 + 2 * n + random.below(3)).saturating_sub(1)),
         7 => put(
             file,
             14,

@@ -38,7 +38,10 @@ fn cause_2_peptides() {
 #[test]
 fn cause_3_leaves() {
     assert_eq!(compare::check(&file(&[1, 1, 1], &[])), 0);
-    assert_eq!(compare::check(&with_number(&file(&[1, 1, 1], &[]), 4, 2)), 3);
+    assert_eq!(
+        compare::check(&with_number(&file(&[1, 1, 1], &[]), 4, 2)),
+        3
+    );
     assert_eq!(compare::check(&with_number(&file(&[1], &[]), 6, 0)), 3);
 }
 
@@ -215,10 +218,7 @@ fn comparison_numbers() {
     assert_eq!(compare::same(&other, broken), (105, 0));
     assert_eq!(compare::same(broken, &[]), (5, 0));
     assert_eq!(compare::same(&eight, &[]), (101, 0));
-    assert_eq!(
-        compare::same(&eight, &file_of(&chain(65, 65, 1))),
-        (110, 0)
-    );
+    assert_eq!(compare::same(&eight, &file_of(&chain(65, 65, 1))), (110, 0));
 }
 
 /// How often each number was answered.
