@@ -193,3 +193,28 @@ fn random_pairs() {
         run("random", Some(&family), Some(&bytes(&path)));
     });
 }
+
+fn example(name: &str) -> String {
+    let folder = Path::new(env!("CARGO_MANIFEST_DIR"))
+        .join("../examples")
+        .join(name);
+    let family = fs::read(folder.join("family.phf")).unwrap();
+    let path = fs::read(folder.join("path.u16")).unwrap();
+    run(&format!("example-{name}"), Some(&family), Some(&path))
+}
+
+#[test]
+fn the_examples() {
+    assert_eq!(example("refused"), "refused 9\n");
+    assert_eq!(example("empty-path"), "t peptide bound mark\n0 0 0 0\n");
+    assert_eq!(example("nested").lines().count(), 98);
+    assert_eq!(example("eight-peptides").lines().count(), 10);
+    // the published curve: 1 2 3 3 4 5 5 5 5
+    let published = example("published");
+    let bounds: Vec<&str> = published
+        .lines()
+        .skip(1)
+        .map(|line| line.split(' ').nth(2).unwrap())
+        .collect();
+    assert_eq!(bounds.join(" "), "0 1 2 3 3 4 5 5 5 5");
+}
