@@ -40,3 +40,5 @@ pub mod Curves
 pub mod OneForm
 pub mod OneFile
 pub mod Examples
+-- the code that finds the kept stretches and lists the reduced ranges
+pub mod StretchPlaces

@@ -2,4 +2,5 @@
 pub mod Reduction
 pub mod Alike
 pub mod Steps
+pub mod Keeping
 pub mod Calls

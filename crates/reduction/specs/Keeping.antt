@@ -1,0 +1,53 @@
+-- What the private functions that find the kept stretches and list the reduced ranges promise each other.
+use Prim.Native.Nat.{ℕ, suc, _+_, _-_, _≤_, _<_}
+use mathlib.Core.Bool.{Bool, true, false, not, cond, _&&_, _||_}
+use mathlib.Core.List.{List, map}
+use mathlib.Core.Logic.{_⊎_}
+use mathlib.Core.Path.{_≡_}
+use lib.ListN.{length, getD}
+use lib.Dec.{ltb, eqb}
+use Rattle.reader.specs.Lists.{someBelow}
+use Rattle.reader.specs.Family.{Family, region, regionCount}
+use Rattle.bounds.specs.Ranges.{Range, rangeOf, rangesOf, those}
+use Rattle.bounds.specs.Bound.{total}
+use Rattle.reduction.specs.Reduction.{live}
+use Rattle.reduction.specs.Steps.{Begins, firstLive, lastLive, reducedRanges}
+
+-- the first and the last peptide of the stretch of the k-th region, counted from 0; 0 and 0 if it has none
+unfoldable pub firstAt : Family → ℕ → ℕ
+firstAt F k = firstLive F (rangeOf F (region F k))
+
+unfoldable pub lastAt : Family → ℕ → ℕ
+lastAt F k = lastLive F (rangeOf F (region F k))
+
+abbrev pub SameStretch : Family → ℕ → ℕ → Type 0
+SameStretch F i k = (firstAt F i ≡ firstAt F k) × (lastAt F i ≡ lastAt F k)
+
+-- the i-th region is the k-th one or around it
+abbrev pub Outward : Family → ℕ → ℕ → Type 0
+Outward F i k = (i ≤ k) × (region F k .last ≤ region F i .last)
+
+-- no later region has the stretch of the k-th one
+abbrev pub Innermost : Family → ℕ → Type 0
+Innermost F k = (i : ℕ) → k < i → i < regionCount F → SameStretch F i k → ⊥
+
+-- Going outward from the k-th region, v is the smallest z of the regions with its stretch,
+-- and w the smallest z of those with another stretch, or 65,535.
+pub record Weighed (F : Family) (k v w : ℕ) : Type 0 where
+  pub least : (i : ℕ) → Outward F i k → SameStretch F i k → v ≤ region F i .z
+  pub reached : (i : ℕ) × Outward F i k × SameStretch F i k × (v ≡ region F i .z)
+  pub around : (i : ℕ) → Outward F i k → (SameStretch F i k → ⊥) → w ≤ region F i .z
+  pub met : (w ≡ 65535) ⊎ ((i : ℕ) × Outward F i k × (SameStretch F i k → ⊥) × (w ≡ region F i .z))
+
+-- the two lists hold these for each of the first n regions that has a stretch
+abbrev pub WeighedBelow : Family → List ℕ → List ℕ → ℕ → Type 0
+WeighedBelow F Z W n = (k : ℕ) → k < n → 1 ≤ firstAt F k → Weighed F k (getD Z k 0) (getD W k 0)
+
+-- The k-th region is the innermost one of a kept stretch whose smallest z is v.
+pub record Keeps (F : Family) (k v : ℕ) : Type 0 where
+  pub some : 1 ≤ firstAt F k
+  pub innermost : Innermost F k
+  pub least : (i : ℕ) → Outward F i k → SameStretch F i k → v ≤ region F i .z
+  pub reached : (i : ℕ) × Outward F i k × SameStretch F i k × (v ≡ region F i .z)
+  pub larger : (i : ℕ) → Outward F i k → (SameStretch F i k → ⊥) → v < region F i .z
+  pub less : v < total (F .peptides) (rangesOf F) (live (rangesOf F)) (rangeOf F (region F k))
