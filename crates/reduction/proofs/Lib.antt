@@ -42,3 +42,5 @@ pub mod OneFile
 pub mod Examples
 -- the code that finds the kept stretches and lists the reduced ranges
 pub mod StretchPlaces
+pub mod Weighing
+pub mod Marking

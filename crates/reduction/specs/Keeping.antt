@@ -51,3 +51,14 @@ pub record Keeps (F : Family) (k v : ℕ) : Type 0 where
   pub reached : (i : ℕ) × Outward F i k × SameStretch F i k × (v ≡ region F i .z)
   pub larger : (i : ℕ) → Outward F i k → (SameStretch F i k → ⊥) → v < region F i .z
   pub less : v < total (F .peptides) (rangesOf F) (live (rangesOf F)) (rangeOf F (region F k))
+
+-- Of the regions from the n-th on, the list holds the z of the kept stretch at its innermost region, and 0 at every other region.
+pub record Marked (F : Family) (C : List ℕ) (n : ℕ) : Type 0 where
+  pub kept : (k : ℕ) → n ≤ k → k < regionCount F → 1 ≤ getD C k 0 → Keeps F k (getD C k 0)
+  pub every : (k v : ℕ) → n ≤ k → k < regionCount F → Keeps F k v → getD C k 0 ≡ v
+
+-- c is the number, counted from 1, of the first region from the k-th on that has a stretch; 0 if none has.
+pub record NextStretch (F : Family) (k c : ℕ) : Type 0 where
+  pub none : c ≡ 0 → (i : ℕ) → k ≤ i → i < regionCount F → firstAt F i ≡ 0
+  pub later : (j : ℕ) → c ≡ suc j → (k ≤ j) × (j < regionCount F) × (1 ≤ firstAt F j)
+  pub first : (j : ℕ) → c ≡ suc j → (i : ℕ) → k ≤ i → i < j → firstAt F i ≡ 0
