@@ -44,3 +44,4 @@ pub mod Examples
 pub mod StretchPlaces
 pub mod Weighing
 pub mod Marking
+pub mod Gathering

@@ -62,6 +62,10 @@ module _ {F : Family} (w : WellFormed F) where
   unfolding firstAt lastAt
   stretch-of k h = live-stretch F (rangeAt F k) h
 
+  pub bound-some : (k : ℕ) → 1 ≤ firstAt F k → 1 ≤ region F k .z
+  unfolding firstAt rangeOf
+  bound-some k h = live-some F (rangeAt F k) h
+
   pub stretch-at : (k : ℕ) {a b : ℕ} → StretchOf (F .peptides) (rangesOf F) a b (rangeAt F k) → (firstAt F k ≡ a) × (lastAt F k ≡ b)
   unfolding firstAt lastAt
   stretch-at k s = stretch-live F (rangeAt F k) s

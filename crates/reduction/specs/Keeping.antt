@@ -8,8 +8,9 @@ use lib.ListN.{length, getD}
 use lib.Dec.{ltb, eqb}
 use Rattle.reader.specs.Lists.{someBelow}
 use Rattle.reader.specs.Family.{Family, region, regionCount}
-use Rattle.bounds.specs.Ranges.{Range, rangeOf, rangesOf, those}
+use Rattle.bounds.specs.Ranges.{Range, Peptides, rangeOf, rangesOf, those}
 use Rattle.bounds.specs.Bound.{total}
+use Rattle.bounds.proofs.Members.{In}
 use Rattle.reduction.specs.Reduction.{live}
 use Rattle.reduction.specs.Steps.{Begins, firstLive, lastLive, reducedRanges}
 
@@ -62,3 +63,38 @@ pub record NextStretch (F : Family) (k c : ℕ) : Type 0 where
   pub none : c ≡ 0 → (i : ℕ) → k ≤ i → i < regionCount F → firstAt F i ≡ 0
   pub later : (j : ℕ) → c ≡ suc j → (k ≤ j) × (j < regionCount F) × (1 ≤ firstAt F j)
   pub first : (j : ℕ) → c ≡ suc j → (i : ℕ) → k ≤ i → i < j → firstAt F i ≡ 0
+
+-- The list of the reduced ranges, while it is written.
+
+-- a longest run of peptides outside the set X begins at p
+unfoldable pub beginsRun : Peptides → ℕ → Bool
+beginsRun X p = not (X p) && (eqb p 1 || X (p - 1))
+
+-- and goes on to e
+pub record RunTo (m : ℕ) (X : Peptides) (p e : ℕ) : Type 0 where
+  pub order : p ≤ e
+  pub small : e ≤ m
+  pub dead : (q : ℕ) → p ≤ q → q ≤ e → X q ≡ false
+  pub right : (e ≡ m) ⊎ (X (e + 1) ≡ true)
+
+-- the kept stretches of the first k regions
+unfoldable pub ofFirst : Family → List ℕ → ℕ → Range → Bool
+ofFirst F C k x = someBelow k (λ i. ltb 0 (getD C i 0) && (eqb (firstAt F i) (x .from) && eqb (lastAt F i) (x .to)))
+
+-- the runs that begin before q, and the stretches that pass t
+unfoldable pub withRuns : Family → (Range → Bool) → ℕ → Range → Bool
+withRuns F t q x = cond (live (rangesOf F) (x .from)) (t x) (ltb (x .from) q)
+
+-- These n of the reduced ranges are listed. The stretches among them begin before q.
+pub record Gathered (F : Family) (t : Range → Bool) (q n : ℕ) (A B Z : List ℕ) : Type 0 where
+  pub number : n ≡ length (those (withRuns F t q) (reducedRanges F))
+  pub firsts : Begins (map (λ x. x .from) (those (withRuns F t q) (reducedRanges F))) A
+  pub lasts : Begins (map (λ x. x .to) (those (withRuns F t q) (reducedRanges F))) B
+  pub bounds : Begins (map (λ x. x .z) (those (withRuns F t q) (reducedRanges F))) Z
+  pub earlier : (x : Range) → In x (reducedRanges F) → live (rangesOf F) (x .from) ≡ true → t x ≡ true → x .from < q
+
+-- Where the k-th region comes next, the kept stretches before it begin before q, and those from it on no earlier than at q - 1.
+pub record Passed (F : Family) (C : List ℕ) (k q : ℕ) : Type 0 where
+  pub positive : 1 ≤ q
+  pub small : q ≤ F .peptides + 1
+  pub after : (i : ℕ) → k ≤ i → i < regionCount F → 1 ≤ getD C i 0 → q ≤ firstAt F i + 1
