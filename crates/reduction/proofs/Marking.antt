@@ -17,7 +17,7 @@ use Rattle.bounds.proofs.Nesting.{Inside, has-facts, has-holds}
 use Rattle.bounds.proofs.Laminar.{Laminar}
 use Rattle.bounds.proofs.Family.{range-in, family-laminar}
 use Rattle.reduction.specs.Reduction.{piece, live, stretches, room, reduced}
-use Rattle.reduction.specs.Keeping.{firstAt, lastAt, SameStretch, Outward, Innermost, Weighed, Keeps, Marked, NextStretch}
+use Rattle.reduction.specs.Keeping.{firstAt, lastAt, SameStretch, Outward, Innermost, Weighed, totalAt, Keeps, Marked, NextStretch}
 use Rattle.reduction.proofs.Unless.{lt-unless}
 use Rattle.reduction.proofs.Kept.{Kept}
 use Rattle.reduction.proofs.Stretches.{StretchOf, Source, stretches-facts, stretches-holds}
@@ -29,8 +29,7 @@ use Rattle.reduction.proofs.Weighing.{decide-same}
 
 -- From the weights of a region.
 
-pub weighed-keeps : {F : Family} {k v u : ℕ} → Weighed F k v u → 1 ≤ firstAt F k → Innermost F k → v < u
-    → v < total (F .peptides) (rangesOf F) (live (rangesOf F)) (rangeOf F (region F k)) → Keeps F k v
+pub weighed-keeps : {F : Family} {k v u : ℕ} → Weighed F k v u → 1 ≤ firstAt F k → Innermost F k → v < u → v < totalAt F k → Keeps F k v
 weighed-keeps d s n l t =
     record { some = s; innermost = n; least = d .least; reached = d .reached; larger = λ i o e. omega (arith, d .around i o e); less = t }
 
@@ -106,8 +105,8 @@ module _ {F : Family} (w : WellFormed F) where
 
   -- The room of the stretch of an innermost region is its inside total.
   room-at : (k : ℕ) → k < regionCount F → 1 ≤ firstAt F k → Innermost F k → (s : Range) → In s T → s .from ≡ firstAt F k → s .to ≡ lastAt F k
-      → total (F .peptides) T (live R) s ≡ total (F .peptides) R (live R) (rangeAt F k)
-  unfolding room
+      → total (F .peptides) T (live R) s ≡ totalAt F k
+  unfolding room totalAt
   room-at k h some inner s i from to =
       room-is laminar s i (rangeAt F k) (range-in F k h) (rw (from, to) (stretch-of w k some)) innermost
     where

@@ -8,6 +8,7 @@ use lib.ListN.{length, getD}
 use lib.Dec.{ltb, eqb}
 use Rattle.reader.specs.Lists.{someBelow}
 use Rattle.reader.specs.Family.{Family, region, regionCount}
+use Rattle.reader.specs.WellFormed.{WellFormed}
 use Rattle.bounds.specs.Ranges.{Range, Peptides, rangeOf, rangesOf, those}
 use Rattle.bounds.specs.Bound.{total}
 use Rattle.bounds.proofs.Members.{In}
@@ -32,6 +33,16 @@ Outward F i k = (i ≤ k) × (region F k .last ≤ region F i .last)
 abbrev pub Innermost : Family → ℕ → Type 0
 Innermost F k = (i : ℕ) → k < i → i < regionCount F → SameStretch F i k → ⊥
 
+-- what is known where the stretches of a family are at hand: the first and the last peptide of each
+pub record Known (F : Family) (A B : List ℕ) : Type 0 where
+  pub wellFormed : WellFormed F
+  pub firsts : (k : ℕ) → k < regionCount F → getD A k 0 ≡ firstAt F k
+  pub lasts : (k : ℕ) → k < regionCount F → getD B k 0 ≡ lastAt F k
+
+-- the i-th and the k-th entries of both lists agree
+unfoldable pub sameEnds : List ℕ → List ℕ → ℕ → ℕ → Bool
+sameEnds A B i k = eqb (getD A i 0) (getD A k 0) && eqb (getD B i 0) (getD B k 0)
+
 -- Going outward from the k-th region, v is the smallest z of the regions with its stretch,
 -- and w the smallest z of those with another stretch, or 65,535.
 pub record Weighed (F : Family) (k v w : ℕ) : Type 0 where
@@ -44,6 +55,14 @@ pub record Weighed (F : Family) (k v w : ℕ) : Type 0 where
 abbrev pub WeighedBelow : Family → List ℕ → List ℕ → ℕ → Type 0
 WeighedBelow F Z W n = (k : ℕ) → k < n → 1 ≤ firstAt F k → Weighed F k (getD Z k 0) (getD W k 0)
 
+-- the inside total of the k-th region, with the live peptides selected
+unfoldable pub totalAt : Family → ℕ → ℕ
+totalAt F k = total (F .peptides) (rangesOf F) (live (rangesOf F)) (rangeOf F (region F k))
+
+-- the list holds it for each region
+abbrev pub TotalsBelow : Family → List ℕ → Type 0
+TotalsBelow F T = (k : ℕ) → k < regionCount F → getD T k 0 ≡ totalAt F k
+
 -- The k-th region is the innermost one of a kept stretch whose smallest z is v.
 pub record Keeps (F : Family) (k v : ℕ) : Type 0 where
   pub some : 1 ≤ firstAt F k
@@ -51,7 +70,7 @@ pub record Keeps (F : Family) (k v : ℕ) : Type 0 where
   pub least : (i : ℕ) → Outward F i k → SameStretch F i k → v ≤ region F i .z
   pub reached : (i : ℕ) × Outward F i k × SameStretch F i k × (v ≡ region F i .z)
   pub larger : (i : ℕ) → Outward F i k → (SameStretch F i k → ⊥) → v < region F i .z
-  pub less : v < total (F .peptides) (rangesOf F) (live (rangesOf F)) (rangeOf F (region F k))
+  pub less : v < totalAt F k
 
 -- Of the regions from the n-th on, the list holds the z of the kept stretch at its innermost region, and 0 at every other region.
 pub record Marked (F : Family) (C : List ℕ) (n : ℕ) : Type 0 where
@@ -63,6 +82,12 @@ pub record NextStretch (F : Family) (k c : ℕ) : Type 0 where
   pub none : c ≡ 0 → (i : ℕ) → k ≤ i → i < regionCount F → firstAt F i ≡ 0
   pub later : (j : ℕ) → c ≡ suc j → (k ≤ j) × (j < regionCount F) × (1 ≤ firstAt F j)
   pub first : (j : ℕ) → c ≡ suc j → (i : ℕ) → k ≤ i → i < j → firstAt F i ≡ 0
+
+-- the smallest z of the k-th region's stretch, or 0 if the region with the number c has the same stretch or the stretch is not kept
+unfoldable pub keptBound : List ℕ → List ℕ → List ℕ → List ℕ → List ℕ → ℕ → ℕ → ℕ
+keptBound A B T Z W c k =
+    cond (eqb (getD A k 0) 0 || (not (eqb c 0) && sameEnds A B (c - 1) k)) 0
+    (cond (ltb (getD Z k 0) (getD T k 0) && ltb (getD Z k 0) (getD W k 0)) (getD Z k 0) 0)
 
 -- The list of the reduced ranges, while it is written.
 
