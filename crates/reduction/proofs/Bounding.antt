@@ -1,17 +1,19 @@
 -- The bound that is written at a region: the z of its stretch if it is kept and no later region has it, else 0.
-use Prim.Native.Nat.{ℕ, suc, _-_, _≤_, _<_}
+use Prim.Native.Nat.{ℕ, suc, _+_, _-_, _≤_, _<_, min}
 use mathlib.Core.Bool.{Bool, true, false, not, cond, _&&_, _||_}
 use mathlib.Core.List.{List}
 use mathlib.Core.Logic.{_⊎_, inl, inr, ⊎-elim}
 use mathlib.Core.Path.{_≡_, refl, sym, _∙_, ap, subst}
 use native.Mathlib.Omega.{arith}
 use lib.Dec.{ltb, eqb}
-use lib.ListN.{getD}
+use lib.ListN.{length, getD, set}
 use borrow.Author.Tests.{ltb-true, ltb-false, lt-ltb, le-ltb, eqb-true, eqb-false, eq-eqb, ne-eqb, not-false}
-use Rattle.reader.specs.Family.{Family, regionCount}
+use Rattle.reader.specs.Family.{Family, regionCount, region}
+use Rattle.reader.specs.WellFormed.{IsParent}
 use Rattle.reader.proofs.Bools.{test, clash, refuted, and-l, and-r, and-both, and-fails, or-l, or-r, or-either, or-neither, or-fails-l, or-fails-r}
-use Rattle.reduction.specs.Keeping.{firstAt, lastAt, SameStretch, Innermost, Known, sameEnds, WeighedBelow, TotalsBelow, Keeps, NextStretch, keptBound}
-use Rattle.reduction.proofs.Marking.{weighed-keeps, keeps-weighed, inner-last, inner-other, not-inner}
+use Rattle.reduction.specs.Keeping.{firstAt, lastAt, SameStretch, Innermost, Known, sameEnds, Weighed, WeighedBelow, TotalsBelow, Keeps, Marked, NextStretch, keptBound}
+use Rattle.reduction.proofs.Weighing.{parent-some, weighed-same, weighed-other}
+use Rattle.reduction.proofs.Marking.{weighed-keeps, keeps-weighed, inner-last, inner-other, not-inner, marked-more, next-here, next-past}
 
 -- The same stretch, as the lists say it.
 module _ {F : Family} {A B : List ℕ} (K : Known F A B) (i k : ℕ) (a : i < regionCount F) (b : k < regionCount F) where
@@ -30,6 +32,21 @@ module _ {F : Family} {A B : List ℕ} (K : Known F A B) (i k : ℕ) (a : i < re
       (eq-eqb (getD A i 0) (getD A k 0) (K .firsts i a ∙ (s .0 ∙ sym (K .firsts k b))))
       (eq-eqb (getD B i 0) (getD B k 0) (K .lasts i a ∙ (s .1 ∙ sym (K .lasts k b)))))
       e
+
+-- The weights of a region with a parent.
+module _ {F : Family} {A B : List ℕ} (K : Known F A B) (Z W : List ℕ) (k c : ℕ) (h : k < regionCount F) (some : c ≡ 0 → ⊥) (p : IsParent F k c)
+    (weights : WeighedBelow F Z W k) (s : 1 ≤ firstAt F k) where
+  parent-place : IsParent F k (suc (c - 1))
+  parent-place = subst (IsParent F k) (omega arith) p
+
+  parent-weights : Weighed F (c - 1) (getD Z (c - 1) 0) (getD W (c - 1) 0)
+  parent-weights = weights (c - 1) (omega (arith, p .earlier)) (parent-some (K .wellFormed) k h (c - 1) parent-place s)
+
+  pub weigh-same : sameEnds A B (c - 1) k ≡ true → Weighed F k (min (region F k .z) (getD Z (c - 1) 0)) (getD W (c - 1) 0)
+  weigh-same e = weighed-same (K .wellFormed) k h (c - 1) parent-place s _ _ parent-weights (same-read K (c - 1) k (omega (arith, p .earlier)) h e)
+
+  pub weigh-other : sameEnds A B (c - 1) k ≡ false → Weighed F k (region F k .z) (min (getD Z (c - 1) 0) (getD W (c - 1) 0))
+  weigh-other e = weighed-other (K .wellFormed) k h (c - 1) parent-place s _ _ parent-weights (other-read K (c - 1) k (omega (arith, p .earlier)) h e)
 
 pub same-differs : (A B : List ℕ) (i k : ℕ) → (getD A i 0 ≡ getD A k 0 → ⊥) → false ≡ sameEnds A B i k
 unfolding sameEnds
@@ -153,3 +170,29 @@ module _ {F : Family} {A B : List ℕ} (T Z W : List ℕ) (K : Known F A B) (tot
       go : Cases → keptBound A B T Z W c k ≡ x
       go (noneKept e f) = absurd (f x y)
       go (kept q f) = f x y
+
+-- The marks, from the last region to the first.
+
+pub marks-start : (F : Family) (C : List ℕ) (k : ℕ) → regionCount F ≤ k → Marked F C k
+marks-start F C k h = record { kept = λ i l u. absurd (omega arith); every = λ i x l u. absurd (omega arith) }
+
+pub next-start : (F : Family) (k : ℕ) → regionCount F ≤ k → NextStretch F k 0
+next-start F k h = record { none = λ e i l u. absurd (omega arith); later = λ j e. absurd (omega arith); first = λ j e. absurd (omega arith) }
+
+module _ {F : Family} {A B : List ℕ} (K : Known F A B) (c k : ℕ) (some : k ≡ 0 → ⊥) (h : k ≤ regionCount F) (n : NextStretch F k c) where
+  next-after : NextStretch F (suc (k - 1)) c
+  next-after = subst (λ (i : ℕ). NextStretch F i c) (omega arith) n
+
+  pub next-stretch : (getD A (k - 1) 0 ≡ 0 → ⊥) → NextStretch F (k - 1) (k - 1 + 1)
+  next-stretch a = subst (NextStretch F (k - 1)) (omega arith) (next-here F (k - 1) (omega arith) (omega (arith, K .firsts (k - 1) (omega arith))))
+
+  pub next-same : getD A (k - 1) 0 ≡ 0 → NextStretch F (k - 1) c
+  next-same a = next-past F (k - 1) c (sym (K .firsts (k - 1) (omega arith)) ∙ a) next-after
+
+  pub marks-more : (T Z W C : List ℕ) (v : ℕ) → TotalsBelow F T → WeighedBelow F Z W (regionCount F) → getD T (k - 1) 0 ≤ 65535 → k ≤ length C → Marked F C k
+      → v ≡ keptBound A B T Z W c (k - 1) → Marked F (set C (k - 1) v) (k - 1)
+  marks-more T Z W C v totals weights fits room old e =
+      let l : k - 1 < regionCount F = omega arith in
+      marked-more F C (k - 1) v (omega arith) (subst (Marked F C) (omega arith) old)
+      (λ s. rw e (bound-keeps T Z W K totals weights c (k - 1) l next-after fits (rw e at s)))
+      (λ x y. e ∙ keeps-bound T Z W K totals weights c (k - 1) l next-after fits x y)

@@ -8,7 +8,7 @@ use native.Mathlib.Nat.{eq-or-lt-of-le}
 use native.Mathlib.Omega.{arith}
 use lib.Dec.{eqb}
 use lib.ListN.{length, getD, List·getD-eq-default, List·getD-append}
-use borrow.Author.Tests.{eq-eqb, ne-eqb}
+use borrow.Author.Tests.{ne-eqb, not-true}
 use Rattle.reader.specs.Lists.{tabulate}
 use Rattle.reader.specs.Bytes.{IsBytes}
 use Rattle.reader.specs.Family.{Region, Family, regionCount, region, familyOf}
@@ -21,7 +21,7 @@ use Rattle.reader.proofs.Accepting.{well-formed}
 use Rattle.bounds.specs.Ranges.{Range, Peptides, rangeOf, rangesOf}
 use Rattle.bounds.specs.Bound.{total}
 use Rattle.bounds.specs.Selections.{selected, totalsOf}
-use Rattle.bounds.proofs.Members.{test, le-or-lt}
+use Rattle.bounds.proofs.Members.{and-l, le-or-lt}
 use Rattle.bounds.proofs.Counting.{SameSet}
 use Rattle.bounds.proofs.Totals.{total-same}
 use Rattle.reduction.specs.Reduction.{live}
@@ -96,6 +96,10 @@ module _ (X : Peptides) (p : ℕ) where
   pub begins-not : X p ≡ true → false ≡ beginsRun X p
   unfolding beginsRun
   begins-not e = rw e
+
+  pub begins-dead : beginsRun X p ≡ true → X p ≡ false
+  unfolding beginsRun
+  begins-dead e = not-true (X p) (and-l (not (X p)) (eqb p 1 || X (p - 1)) e)
 
   pub begins-after : X p ≡ false → 1 < p → X (p - 1) ≡ beginsRun X p
   unfolding beginsRun

@@ -1,5 +1,5 @@
 -- The smallest z of a stretch and the smallest z around it, from the region just around.
-use Prim.Native.Nat.{ℕ, suc, _-_, _≤_, _<_, min}
+use Prim.Native.Nat.{ℕ, suc, _+_, _-_, _≤_, _<_, min}
 use mathlib.Core.List.{List}
 use mathlib.Core.Logic.{_⊎_, inl, inr, ⊎-elim}
 use mathlib.Core.Path.{_≡_, refl, sym, _∙_, subst}
@@ -91,7 +91,7 @@ module _ {F : Family} (w : WellFormed F) (k : ℕ) (h : k < regionCount F) where
 -- one more region is written
 pub weighed-more :
     (F : Family) (Z W : List ℕ) (k v u : ℕ) → k < length Z → k < length W → WeighedBelow F Z W k → (1 ≤ firstAt F k → Weighed F k v u)
-    → WeighedBelow F (set Z k v) (set W k u) (suc k)
+    → WeighedBelow F (set Z k v) (set W k u) (k + 1)
 weighed-more F Z W k v u a b old new i l s = ⊎-elim same earlier (eq-or-lt-of-le (omega arith))
   where
     same : i ≡ k → Weighed F i (getD (set Z k v) i 0) (getD (set W k u) i 0)

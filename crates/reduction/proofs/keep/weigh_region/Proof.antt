@@ -1,56 +1,70 @@
+-- The three cases: no parent, a parent with the same stretch, a parent with another one.
+use denote.Ref.{now}
+use Prim.Native.Nat.{ℕ}
+use mathlib.Core.Path.{sym, _∙_, subst}
+use native.Mathlib.Omega.{arith}
+use Rattle.reader.specs.Family.{familyOf, region}
+use Rattle.reader.specs.WellFormed.{IsParent}
+use Rattle.reader.proofs.Parsed.{held-z}
+use Rattle.reduction.proofs.Weighing.{weighed-outermost}
+use Rattle.reduction.proofs.Bounding.{weigh-same, weigh-other}
 use borrow.Author.Needs.{needs}
 use Rattle.reduction.proofs.keep.weigh_region.Statement.{statement}
 use Rattle.reduction.proofs.keep.weigh_region.Tie as tie
-use Rattle.reduction.proofs.keep.weigh_region.Reads as reads
-use Rattle.reduction.proofs.keep.weigh_region.Lts as lts
-use Rattle.reader.proofs.family.region_of.Reads as region-of-reads
-use Rattle.reduction.proofs.keep.nth.Reads as nth-reads
-use Rattle.reduction.proofs.keep.same_stretch.Reads as same-stretch-reads
-use Rattle.reduction.proofs.keep.smaller.Reads as smaller-reads
 
--- src/keep.rt:55:9
+-- the number at hand is that of the parent
+is-parent : (c : tie.After-nth) → IsParent (familyOf (now (c .before .before .before .before .before .before .before .before .args .file))) (c .before .before .before .before .before .before .before .before .args .k) (c .nth .result)
+is-parent c =
+    let pre = c .before .before .before .before .before .before .before .before .pre in
+    subst (IsParent (familyOf (now (c .before .before .before .before .before .before .before .before .args .file))) (c .before .before .before .before .before .before .before .before .args .k)) (sym (c .nth .ensures)) (pre .1 .0 (c .before .before .before .before .before .before .before .before .args .k) (pre .1 .1 .1))
+
 region-of-requires : tie.Need-region-of-requires
 region-of-requires c κs = search needs
 
--- src/keep.rt:57:9
 nth-requires : tie.Need-nth-requires
 nth-requires c κs = search needs
 
--- src/keep.rt:59:9
 returns : tie.Need-returns
-returns c = search needs
+returns c s =
+    let F = familyOf (now (c .before .before .before .before .before .before .before .before .before .args .file)) in
+    let k = c .before .before .before .before .before .before .before .before .before .args .k in
+    let pre = c .before .before .before .before .before .before .before .before .before .pre in
+    rw (held-z _ (region F k) (c .before .before .region-of .ensures))
+    (weighed-outermost (pre .0 .wellFormed) k (pre .1 .1 .1) (subst (IsParent F k) (c .if1 .taken) (is-parent (c .before))))
 
--- src/keep.rt:64:18
 sub-parent : tie.Need-sub-parent
 sub-parent c = search needs
 
--- src/keep.rt:65:9
 nth-requires-2 : tie.Need-nth-requires-2
 nth-requires-2 c κs = search needs
 
--- src/keep.rt:66:9
 nth-requires-3 : tie.Need-nth-requires-3
 nth-requires-3 c κs = search needs
 
--- src/keep.rt:67:8
 same-stretch-requires : tie.Need-same-stretch-requires
 same-stretch-requires c κs = search needs
 
--- src/keep.rt:69:20
 smaller-requires : tie.Need-smaller-requires
 smaller-requires c κs = search needs
 
--- src/keep.rt:68:9
 returns-2 : tie.Need-returns-2
-returns-2 c = search needs
+returns-2 c s =
+    let F = familyOf (now (c .before .before .before .before .before .before .before .before .before .before .before .before .before .before .args .file)) in
+    let k = c .before .before .before .before .before .before .before .before .before .before .before .before .before .before .args .k in
+    let pre = c .before .before .before .before .before .before .before .before .before .before .before .before .before .before .pre in
+    rw (c .smaller .ensures, held-z _ (region F k) (c .before .before .before .before .before .before .before .region-of .ensures), c .before .before .before .before .nth2 .ensures, c .before .before .before .nth3 .ensures)
+    (weigh-same (pre .0) (now (c .before .before .before .before .before .before .before .before .before .before .before .before .before .before .args .least)) (now (c .before .before .before .before .before .before .before .before .before .before .before .before .before .before .args .around)) k (c .before .before .before .before .before .before .nth .result) (pre .1 .1 .1) (c .before .before .before .before .before .if1 .left) (is-parent (c .before .before .before .before .before .before)) (pre .1 .1 .0) s (sym (c .before .before .same-stretch .ensures) ∙ c .before .if2 .taken))
 
--- src/keep.rt:75:17
 smaller-requires-2 : tie.Need-smaller-requires-2
 smaller-requires-2 c κs = search needs
 
--- src/keep.rt:48:1
 returns-3 : tie.Need-returns-3
-returns-3 c = search needs
+returns-3 c s =
+    let F = familyOf (now (c .before .before .before .before .before .before .before .before .before .before .before .before .before .before .args .file)) in
+    let k = c .before .before .before .before .before .before .before .before .before .before .before .before .before .before .args .k in
+    let pre = c .before .before .before .before .before .before .before .before .before .before .before .before .before .before .pre in
+    rw (c .smaller2 .ensures, held-z _ (region F k) (c .before .before .before .before .before .before .before .region-of .ensures), c .before .before .before .before .nth2 .ensures, c .before .before .before .nth3 .ensures)
+    (weigh-other (pre .0) (now (c .before .before .before .before .before .before .before .before .before .before .before .before .before .before .args .least)) (now (c .before .before .before .before .before .before .before .before .before .before .before .before .before .before .args .around)) k (c .before .before .before .before .before .before .nth .result) (pre .1 .1 .1) (c .before .before .before .before .before .if1 .left) (is-parent (c .before .before .before .before .before .before)) (pre .1 .1 .0) s (sym (c .before .before .same-stretch .ensures) ∙ c .before .if2 .left))
 
 pub weigh-region-spec : {M : Type 1} → statement M
 weigh-region-spec =
