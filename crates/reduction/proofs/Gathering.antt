@@ -17,18 +17,20 @@ use Rattle.reader.specs.WellFormed.{WellFormed}
 use Rattle.reader.proofs.Bools.{or-neither, not-passes}
 use Rattle.reader.proofs.Below.{some-at, found, none-more, below-suc}
 use Rattle.bounds.specs.Ranges.{Range, Peptides, rangesOf, those}
+use Rattle.bounds.specs.Selections.{selected}
 use Rattle.bounds.proofs.Members.{In, test, clash, refuted, and-l, and-r, and-both, or-l, or-r, or-either, both-ways, in-those, those-in, those-same, le-or-lt}
 use Rattle.bounds.proofs.Family.{ranges-length}
 use Rattle.reduction.specs.Reduction.{piece, live, reduced}
-use Rattle.reduction.specs.Steps.{Begins, reducedRanges, Listed}
+use Rattle.reduction.specs.Steps.{Begins, liveBytes, reducedRanges, Listed}
 use Rattle.reduction.specs.Keeping.{firstAt, lastAt, SameStretch, Innermost, Keeps, Marked, beginsRun, RunTo, ofFirst, withRuns, Gathered, Passed}
 use Rattle.reduction.proofs.Unless.{lt-unless}
 use Rattle.reduction.proofs.Grid.{Before, FileOrder, in-append, append-l, append-r, those-ordered, ordered-same}
 use Rattle.reduction.proofs.Stretches.{stretches-facts}
-use Rattle.reduction.proofs.Runs.{DeadRun, run-end}
+use Rattle.reduction.proofs.Runs.{DeadRun, run-same, run-end}
 use Rattle.reduction.proofs.Reduced.{Written, run, kept, reduced-facts, reduced-holds, reduced-ordered}
 use Rattle.reduction.proofs.RunOrStretch.{plain, first}
 use Rattle.reduction.proofs.Smallest.{reduced-count}
+use Rattle.reduction.proofs.HandedOn.{lives-same}
 use Rattle.reduction.proofs.StretchPlaces.{stretch-of, bound-some, stretch-order}
 use Rattle.reduction.proofs.Marking.{KeptAt, keeps-reduced, reduced-kept}
 
@@ -225,18 +227,26 @@ module _ (F : Family) where
 
 -- The tests that the code makes.
 
-pub run-begins : {m : ℕ} (X : Peptides) (p e : ℕ) → 1 ≤ p → beginsRun X p ≡ true → RunTo m X p e → DeadRun m X p e
+run-begins : {m : ℕ} (X : Peptides) (p e : ℕ) → 1 ≤ p → beginsRun X p ≡ true → RunTo m X p e → DeadRun m X p e
 unfolding beginsRun
 run-begins X p e h b r =
     let left = or-either (eqb p 1) (X (p - 1)) (and-r (not (X p)) (eqb p 1 || X (p - 1)) b) in
     record { positive = h; order = r .order; small = r .small; dead = r .dead; left = ⊎-elim (λ t. inl (eqb-true p 1 t)) inr left; right = r .right }
 
-pub begins-run : {m : ℕ} (X : Peptides) (p e : ℕ) → beginsRun X p ≡ false → DeadRun m X p e → ⊥
+begins-run : {m : ℕ} (X : Peptides) (p e : ℕ) → beginsRun X p ≡ false → DeadRun m X p e → ⊥
 unfolding beginsRun
 begins-run X p e b r =
     clash
     (and-both (not (X p)) (eqb p 1 || X (p - 1)) (not-passes (X p) (r .dead p (omega arith) (r .order))) (⊎-elim (λ d. or-l (eqb p 1) (X (p - 1)) (eq-eqb p 1 d)) (or-r (eqb p 1) (X (p - 1))) (r .left)))
     b
+
+-- as the live bytes say it
+module _ (F : Family) (X : List ℕ) (b : Begins (liveBytes F) X) (p : ℕ) where
+  pub run-here : (e : ℕ) → 1 ≤ p → beginsRun (selected X) p ≡ true → RunTo (F .peptides) (selected X) p e → DeadRun (F .peptides) (live (rangesOf F)) p e
+  run-here e h t r = run-same (selected X) (live (rangesOf F)) (lives-same F X b) (run-begins (selected X) p e h t r)
+
+  pub no-run-here : beginsRun (selected X) p ≡ false → (e : ℕ) → DeadRun (F .peptides) (live (rangesOf F)) p e → ⊥
+  no-run-here t e r = begins-run (selected X) p e t (run-same (live (rangesOf F)) (selected X) (λ q l u. sym (lives-same F X b q l u)) r)
 
 -- One region more.
 

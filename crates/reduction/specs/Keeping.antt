@@ -13,7 +13,7 @@ use Rattle.bounds.specs.Ranges.{Range, Peptides, rangeOf, rangesOf, those}
 use Rattle.bounds.specs.Bound.{total}
 use Rattle.bounds.proofs.Members.{In}
 use Rattle.reduction.specs.Reduction.{live}
-use Rattle.reduction.specs.Steps.{Begins, firstLive, lastLive, reducedRanges}
+use Rattle.reduction.specs.Steps.{Begins, liveBytes, firstLive, lastLive, reducedRanges}
 
 -- the first and the last peptide of the stretch of the k-th region, counted from 0; 0 and 0 if it has none
 unfoldable pub firstAt : Family → ℕ → ℕ
@@ -123,3 +123,18 @@ pub record Passed (F : Family) (C : List ℕ) (k q : ℕ) : Type 0 where
   pub positive : 1 ≤ q
   pub small : q ≤ F .peptides + 1
   pub after : (i : ℕ) → k ≤ i → i < regionCount F → 1 ≤ getD C i 0 → q ≤ firstAt F i + 1
+
+-- what is known where the runs that begin from q on, before e, are listed
+pub record RunsAhead (F : Family) (X : List ℕ) (q e : ℕ) (A B Z : List ℕ) : Type 0 where
+  pub lives : Begins (liveBytes F) X
+  pub positive : 1 ≤ q
+  pub order : q ≤ e
+  pub small : e ≤ F .peptides + 1
+  pub few : regionCount F ≤ 8191
+  pub firsts : regionCount F ≤ length A
+  pub lasts : regionCount F ≤ length B
+  pub bounds : regionCount F ≤ length Z
+
+-- whatever stretches are listed already
+abbrev pub Somehow : Family → ℕ → ℕ → List ℕ → List ℕ → List ℕ → Type 0
+Somehow F q n A B Z = (t : Range → Bool) × Gathered F t q n A B Z

@@ -1,17 +1,17 @@
 // The kept stretches of a family and, with the longest runs of dead peptides, the list of the reduced ranges.
 use reader::bytes::number_at;
 use reader::family::region_of;
-ghost use mathlib.Core.Bool.{true, not, _&&_};
+ghost use mathlib.Core.Bool.{Bool, true, not, _&&_};
 ghost use lib.Dec.{eqb};
 ghost use mathlib.Core.Path.{_≡_};
-ghost use Prim.Native.Nat.{ℕ, _+_, _-_, _<_, _≤_, min};
+ghost use Prim.Native.Nat.{_+_, _-_, _<_, _≤_, min};
 ghost use lib.ListN.{length, getD};
 ghost use Rattle.reader.specs.Family.{familyOf, regionCount};
-ghost use Rattle.reader.specs.WellFormed.{WellFormed, ParentsBelow};
+ghost use Rattle.reader.specs.WellFormed.{ParentsBelow};
 ghost use Rattle.bounds.specs.Ranges.{Range};
 ghost use Rattle.bounds.specs.Selections.{selected};
-ghost use Rattle.reduction.specs.Steps.{Begins, liveBytes, Parented, Stretched, Totalled, Listed};
-ghost use Rattle.reduction.specs.Keeping.{Known, sameEnds, firstAt, Weighed, WeighedBelow, TotalsBelow, keptBound, Marked, beginsRun, RunTo, ofFirst, Gathered};
+ghost use Rattle.reduction.specs.Steps.{Parented, Stretched, Totalled, Listed};
+ghost use Rattle.reduction.specs.Keeping.{Known, sameEnds, firstAt, Weighed, WeighedBelow, TotalsBelow, keptBound, Marked, beginsRun, RunTo, Gathered, RunsAhead, Somehow};
 
 // Going outward from a region: the smallest z of its stretch, and the smallest z of the other stretches.
 struct Weights {
@@ -177,4 +177,75 @@ fn run_end(live: &[u8], p: u16, peptides: u16) -> u16
         last += 1;
     }
     last
+}
+
+// Lists the runs that begin from `begin` on, before `end`, after the `count` ranges listed so far; returns how many there are then.
+fn append_runs(file: &[u8], live: &[u8], begin: u16, end: u16, from: &mut [u16], to: &mut [u16], bounds: &mut [u16], count: u16) -> u16
+    requires { ⌜ RunsAhead (familyOf (now file)) (now live) begin end (now from) (now to) (now bounds) ⌝ }
+    requires { ⌜ Somehow (familyOf (now file)) begin count (now from) (now to) (now bounds) ⌝ }
+    ensures { λ r. ⌜ ((t : Range → Bool) → Gathered (familyOf (now (file .entry))) t begin count (now (from .entry)) (now (to .entry)) (now (bounds .entry)) → Gathered (familyOf (now (file .entry))) t end r (now (from .exit)) (now (to .exit)) (now (bounds .exit))) ⌝ }
+{
+    let peptides = number_at(file, 4);
+    let mut n = count;
+    let mut p = begin;
+    while p < end {
+        let first = p;
+        p += 1;
+        if begins_run(live, first) {
+            let last = run_end(live, first, peptides);
+            from[n as usize] = first;
+            to[n as usize] = last;
+            bounds[n as usize] = 0;
+            n += 1;
+        }
+    }
+    n
+}
+
+// Lists the kept stretches in file order, each after the runs that begin before it.
+fn gather(file: &[u8], live: &[u8], firsts: &[u16], lasts: &[u16], kept: &[u16], from: &mut [u16], to: &mut [u16], bounds: &mut [u16]) -> u16
+    requires { ⌜ Known (familyOf (now file)) (now firsts) (now lasts) ⌝ }
+    requires { ⌜ Marked (familyOf (now file)) (now kept) 0 ⌝ }
+    requires { ⌜ RunsAhead (familyOf (now file)) (now live) 1 (familyOf (now file) .peptides + 1) (now from) (now to) (now bounds) ⌝ }
+    ensures { λ r. ⌜ Listed (now (file .entry)) r (now (from .exit)) (now (to .exit)) (now (bounds .exit)) ⌝ }
+{
+    let peptides = number_at(file, 4);
+    let regions = number_at(file, 8);
+    let mut n = 0;
+    let mut next = 1;
+    let mut k = 0;
+    while k < regions {
+        let here = k;
+        k += 1;
+        let z = nth(kept, here);
+        if z != 0 {
+            let first = nth(firsts, here);
+            let last = nth(lasts, here);
+            n = append_runs(file, live, next, first + 1, from, to, bounds, n);
+            from[n as usize] = first;
+            to[n as usize] = last;
+            bounds[n as usize] = z;
+            n += 1;
+            next = first + 1;
+        }
+    }
+    append_runs(file, live, next, peptides + 1, from, to, bounds, n)
+}
+
+// The reduced ranges in file order: the first peptide, the last one and the bound of each; returns how many there are.
+pub(crate) fn list_reduced(file: &[u8], parents: &[u16], totals: &[u16], live: &[u8], firsts: &[u16], lasts: &[u16], from: &mut [u16], to: &mut [u16], bounds: &mut [u16]) -> u16
+    requires { ⌜ Parented (now file) (now parents) ⌝ }
+    requires { ⌜ Totalled (now file) (now totals) ⌝ }
+    requires { ⌜ Stretched (now file) (now live) (now firsts) (now lasts) ⌝ }
+    requires { ⌜ regionCount (familyOf (now file)) ≤ length (now from) ⌝ }
+    requires { ⌜ regionCount (familyOf (now file)) ≤ length (now to) ⌝ }
+    requires { ⌜ regionCount (familyOf (now file)) ≤ length (now bounds) ⌝ }
+    ensures { λ r. ⌜ Listed (now (file .entry)) r (now (from .exit)) (now (to .exit)) (now (bounds .exit)) ⌝ }
+{
+    let mut least = [0u16; 8191];
+    let mut around = [0u16; 8191];
+    let mut kept = [0u16; 8191];
+    weigh(file, parents, firsts, lasts, &mut least, &mut around);
+    mark_kept(file, totals, firsts, lasts, &least, &around, &mut kept);
+    gather(file, live, firsts, lasts, &kept, from, to, bounds)
 }
