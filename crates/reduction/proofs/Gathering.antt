@@ -405,6 +405,39 @@ module _ {F : Family} (w : WellFormed F) (C : List ℕ) (M : Marked F C 0) where
         gathered-more F (ofFirst F C k) (ofFirst F C (k + 1)) q q n A B Z it stretch-listed g a b z
         (λ y i l t. ⊎-elim (λ s. g .earlier y i l s) (λ s. omega (arith, here-facts k y s .1)) (down y t))
 
+  -- Where the next run is looked for.
+
+  pub passed-start : Passed F C 0 1
+  passed-start = record { positive = omega arith; small = omega arith; after = λ i l h c. omega arith }
+
+  pub passed-skip : (k q : ℕ) → Passed F C k q → Passed F C (k + 1) q
+  passed-skip k q p = record { positive = p .positive; small = p .small; after = λ i l h c. p .after i (omega arith) h c }
+
+  passed-stretch : (k : ℕ) → k < regionCount F → 1 ≤ getD C k 0 → Passed F C (k + 1) (firstAt F k + 1)
+  passed-stretch k h c =
+      let s = stretch-of w k (M .kept k (omega arith) h c .some) in
+      record {
+        positive = omega arith;
+        small = omega (arith, s .order, s .small);
+        after = λ i l u d. ⊎-elim (λ q. omega arith) (λ q. omega (arith, q .0)) (later-stretch k i (omega arith) u c d);
+      }
+
+  pub passed-place : (k x : ℕ) → k < regionCount F → 1 ≤ getD C k 0 → x ≡ firstAt F k → Passed F C (k + 1) (x + 1)
+  passed-place k x h c a = rw a (passed-stretch k h c)
+
+  -- the same, with what the lists hold at the region
+  module _ (k n : ℕ) (A B Z : List ℕ) (h : k < regionCount F) (c : 1 ≤ getD C k 0) (x y z : ℕ) (a : x ≡ firstAt F k) (b : y ≡ lastAt F k) (d : z ≡ getD C k 0)
+      (g : Gathered F (ofFirst F C k) (x + 1) n A B Z) where
+    there : Gathered F (ofFirst F C k) (firstAt F k + 1) n A B Z
+    there = subst (λ (i : ℕ). Gathered F (ofFirst F C k) (i + 1) n A B Z) a g
+
+    pub place-room : n < regionCount F
+    place-room = stretch-room k n A B Z h c there
+
+    pub place-more : regionCount F ≤ length A → regionCount F ≤ length B → regionCount F ≤ length Z
+        → Gathered F (ofFirst F C (k + 1)) (x + 1) (n + 1) (set A n x) (set B n y) (set Z n z)
+    place-more e f q = rw (a, b, d) (stretch-more k n A B Z h c there e f q)
+
   -- All are listed.
   pub gathers-all : (s n : ℕ) (A B Z : List ℕ) → s ≡ F .peptides + 1 → Gathered F (ofFirst F C (regionCount F)) s n A B Z
       → those (withRuns F (ofFirst F C (regionCount F)) s) (reducedRanges F) ≡ reducedRanges F
@@ -423,19 +456,13 @@ module _ {F : Family} (w : WellFormed F) (C : List ℕ) (M : Marked F C 0) where
           (λ l. of-run F (ofFirst F C (regionCount F)) s x l ∙ lt-ltb (x .from) s (omega (arith, ends F x i)))
           (test (live (rangesOf F) (x .from)))
 
-  -- Where the next run is looked for.
+pub listed-all : (s : List ℕ) (w : WellFormed (familyOf s)) (C : List ℕ) → Marked (familyOf s) C 0 → (k q n : ℕ) (A B Z : List ℕ) → k ≡ regionCount (familyOf s)
+    → q ≡ familyOf s .peptides + 1 → Gathered (familyOf s) (ofFirst (familyOf s) C k) q n A B Z → Listed s n A B Z
+listed-all s w C M k q n A B Z a b g =
+    let F = familyOf s in
+    let r : Gathered F (ofFirst F C (regionCount F)) q n A B Z = subst (λ (i : ℕ). Gathered F (ofFirst F C i) q n A B Z) a g in
+    let e = gathers-all w C M q n A B Z b r in
+    record { number = rw e at (r .number); firsts = rw e at (r .firsts); lasts = rw e at (r .lasts); bounds = rw e at (r .bounds) }
 
-  pub passed-start : Passed F C 0 1
-  passed-start = record { positive = omega arith; small = omega arith; after = λ i l h c. omega arith }
-
-  pub passed-skip : (k q : ℕ) → Passed F C k q → Passed F C (k + 1) q
-  passed-skip k q p = record { positive = p .positive; small = p .small; after = λ i l h c. p .after i (omega arith) h c }
-
-  pub passed-stretch : (k : ℕ) → k < regionCount F → 1 ≤ getD C k 0 → Passed F C (k + 1) (firstAt F k + 1)
-  passed-stretch k h c =
-      let s = stretch-of w k (M .kept k (omega arith) h c .some) in
-      record {
-        positive = omega arith;
-        small = omega (arith, s .order, s .small);
-        after = λ i l u d. ⊎-elim (λ q. omega arith) (λ q. omega (arith, q .0)) (later-stretch k i (omega arith) u c d);
-      }
+pub few-regions : {F : Family} → WellFormed F → regionCount F ≤ 8191
+few-regions w = omega (arith, w .regions-most, w .leaves-most, w .peptides-most, w .leaves-some)
