@@ -1,61 +1,79 @@
+-- The three steps, from the lists that are handed in.
+use denote.Ref.{now}
+use Prim.Native.Nat.{ℕ, _+_, _≤_}
+use mathlib.Core.Path.{_≡_}
+use native.Mathlib.Omega.{arith}
+use lib.ListN.{length}
+use Rattle.reader.specs.Bytes.{IsBytes}
+use Rattle.reader.specs.Family.{familyOf, regionCount}
+use Rattle.reduction.specs.Keeping.{Known}
+use Rattle.reduction.proofs.HandedOn.{known, totals-at, parents-at}
+use Rattle.reduction.proofs.Gathering.{few-regions}
 use borrow.Author.Needs.{needs}
 use Rattle.reduction.proofs.keep.list_reduced.Statement.{statement}
 use Rattle.reduction.proofs.keep.list_reduced.Tie as tie
-use Rattle.reduction.proofs.keep.list_reduced.Reads as reads
-use Rattle.reduction.proofs.keep.list_reduced.Lts as lts
-use Rattle.reduction.proofs.keep.gather.Reads as gather-reads
-use Rattle.reduction.proofs.keep.mark_kept.Reads as mark-kept-reads
-use Rattle.reduction.proofs.keep.weigh.Reads as weigh-reads
 
--- src/keep.rt:248:41
+bytes : (c : tie.After-shared-slice-known) → IsBytes (now (c .before .args .file))
+bytes c i = omega (arith, c .shared-slice-known .given i)
+
+knows : (c : tie.After-shared-slice-known) → Known (familyOf (now (c .before .args .file))) (now (c .before .args .firsts)) (now (c .before .args .lasts))
+knows c = known (now (c .before .args .file)) (bytes c) (c .before .pre .0 .accepted) (now (c .before .args .live)) (now (c .before .args .firsts)) (now (c .before .args .lasts)) (c .before .pre .1 .1 .0)
+
+few : (c : tie.After-shared-slice-known) → regionCount (familyOf (now (c .before .args .file))) ≤ 8191
+few c = few-regions (knows c .wellFormed)
+
 slice-aggregate-weigh : tie.Need-slice-aggregate-weigh
 slice-aggregate-weigh c = search needs
 
--- src/keep.rt:248:53
 slice-aggregate-weigh-2 : tie.Need-slice-aggregate-weigh-2
 slice-aggregate-weigh-2 c = search needs
 
--- src/keep.rt:248:5
 weigh-requires : tie.Need-weigh-requires
-weigh-requires c κs = search needs
+weigh-requires c κs = (knows (c .before .before .before .before .before .before .before .before .before .before), (parents-at (now (c .before .before .before .before .before .before .before .before .before .before .before .args .file)) (now (c .before .before .before .before .before .before .before .before .before .before .before .args .parents)) (bytes (c .before .before .before .before .before .before .before .before .before .before)) (c .before .before .before .before .before .before .before .before .before .before .before .pre .0), (few (c .before .before .before .before .before .before .before .before .before .before), few (c .before .before .before .before .before .before .before .before .before .before))))
 
--- src/keep.rt:249:44
 slice-aggregate-mark-kept : tie.Need-slice-aggregate-mark-kept
 slice-aggregate-mark-kept c = search needs
 
--- src/keep.rt:249:52
 slice-aggregate-mark-kept-2 : tie.Need-slice-aggregate-mark-kept-2
 slice-aggregate-mark-kept-2 c = search needs
 
--- src/keep.rt:249:61
 slice-aggregate-mark-kept-3 : tie.Need-slice-aggregate-mark-kept-3
 slice-aggregate-mark-kept-3 c = search needs
 
--- src/keep.rt:249:5
 mark-kept-requires : tie.Need-mark-kept-requires
-mark-kept-requires c κs = search needs
+mark-kept-requires c κs = (knows (c .before .before .before .before .before .before .before .before .before .before .before .before .before .before .before .before), (totals-at (now (c .before .before .before .before .before .before .before .before .before .before .before .before .before .before .before .before .before .args .file)) (now (c .before .before .before .before .before .before .before .before .before .before .before .before .before .before .before .before .before .args .totals)) (c .before .before .before .before .before .before .before .before .before .before .before .before .before .before .before .before .before .pre .1 .0), (c .before .before .before .before .before .weigh .ensures, few (c .before .before .before .before .before .before .before .before .before .before .before .before .before .before .before .before))))
 
--- src/keep.rt:250:39
 slice-aggregate-gather : tie.Need-slice-aggregate-gather
 slice-aggregate-gather c = search needs
 
--- src/keep.rt:250:5
 gather-requires : tie.Need-gather-requires
-gather-requires c κs = search needs
+gather-requires c κs =
+    let pre = c .before .before .before .before .before .before .before .before .before .before .before .before .before .before .before .before .before .before .before .before .before .before .before .pre .1 .1 in (
+      knows (c .before .before .before .before .before .before .before .before .before .before .before .before .before .before .before .before .before .before .before .before .before .before),
+      (
+        c .before .before .before .before .before .mark-kept .ensures,
+        record {
+          lives = pre .0 .lives;
+          positive = omega arith;
+          order = omega arith;
+          small = omega arith;
+          few = few (c .before .before .before .before .before .before .before .before .before .before .before .before .before .before .before .before .before .before .before .before .before .before);
+          firsts = pre .1 .0;
+          lasts = pre .1 .1 .0;
+          bounds = pre .1 .1 .1;
+        },
+      ),
+    )
 
--- src/keep.rt:236:1
 same-length : tie.Need-same-length
 same-length c = search needs
 
--- src/keep.rt:236:1
 same-length-2 : tie.Need-same-length-2
 same-length-2 c = search needs
 
--- src/keep.rt:236:1
 same-length-3 : tie.Need-same-length-3
 same-length-3 c = search needs
 
--- src/keep.rt:236:1
 returns : tie.Need-returns
 returns c = search needs
 
