@@ -2,16 +2,16 @@
 use Prim.Native.Nat.{ℕ, suc, _+_, _-_, _≤_, _<_, min}
 use mathlib.Core.Bool.{Bool, true, false, not, cond, _&&_, _||_}
 use mathlib.Core.List.{List}
-use mathlib.Core.Logic.{_⊎_, inl, inr, ⊎-elim}
+use mathlib.Core.Logic.{⊎-elim}
 use mathlib.Core.Path.{_≡_, refl, sym, _∙_, ap, subst}
 use native.Mathlib.Omega.{arith}
 use lib.Dec.{ltb, eqb}
 use lib.ListN.{length, getD, set}
-use borrow.Author.Tests.{ltb-true, ltb-false, lt-ltb, le-ltb, eqb-true, eqb-false, eq-eqb, ne-eqb, not-false}
+use borrow.Author.Tests.{ltb-true, lt-ltb, eqb-true, eqb-false, eq-eqb, ne-eqb, not-false}
 use Rattle.reader.specs.Family.{Family, regionCount, region}
 use Rattle.reader.specs.WellFormed.{IsParent}
-use Rattle.reader.proofs.Bools.{test, clash, refuted, and-l, and-r, and-both, and-fails, or-l, or-r, or-either, or-neither, or-fails-l, or-fails-r}
-use Rattle.reduction.specs.Keeping.{firstAt, lastAt, SameStretch, Innermost, Known, sameEnds, Weighed, WeighedBelow, TotalsBelow, Keeps, Marked, NextStretch, keptBound}
+use Rattle.reader.proofs.Bools.{test, clash, refuted, and-l, and-r, and-both, and-fails, or-r}
+use Rattle.reduction.specs.Keeping.{firstAt, SameStretch, Innermost, Known, sameEnds, Weighed, WeighedBelow, TotalsBelow, Keeps, Marked, NextStretch, keptBound}
 use Rattle.reduction.proofs.Weighing.{parent-some, weighed-same, weighed-other}
 use Rattle.reduction.proofs.Marking.{weighed-keeps, keeps-weighed, inner-last, inner-other, not-inner, marked-more, next-here, next-past}
 

@@ -5,24 +5,22 @@ use mathlib.Core.List.{List, [], _∷_, _++_, map}
 use mathlib.Core.Logic.{_⊎_, inl, inr, ⊎-elim}
 use mathlib.Core.Path.{_≡_, refl, sym, _∙_, ap, subst}
 use native.Mathlib.Nat.{eq-or-lt-of-le}
-use native.Mathlib.Numerals.{add-one}
 use native.Mathlib.Omega.{arith}
 use lib.Dec.{ltb, eqb}
 use lib.ListN.{length, getD, set, length-append}
 use lib.Seq.{set-at, append-snoc}
-use borrow.Author.Tests.{ltb-true, ltb-false, lt-ltb, le-ltb, eqb-true, eqb-false, eq-eqb, not-true}
-use Rattle.reader.specs.Lists.{someBelow}
-use Rattle.reader.specs.Family.{Family, regionCount, region, familyOf}
+use borrow.Author.Tests.{ltb-true, lt-ltb, eqb-true, eq-eqb}
+use Rattle.reader.specs.Family.{Family, regionCount, familyOf}
 use Rattle.reader.specs.WellFormed.{WellFormed}
-use Rattle.reader.proofs.Bools.{or-neither, not-passes}
-use Rattle.reader.proofs.Below.{some-at, found, none-more, below-suc}
+use Rattle.reader.proofs.Bools.{not-passes}
+use Rattle.reader.proofs.Below.{some-at, found}
 use Rattle.bounds.specs.Ranges.{Range, Peptides, rangesOf, those}
 use Rattle.bounds.specs.Selections.{selected}
 use Rattle.bounds.proofs.Members.{In, test, clash, refuted, and-l, and-r, and-both, or-l, or-r, or-either, both-ways, in-those, those-in, those-same, le-or-lt}
 use Rattle.bounds.proofs.Family.{ranges-length}
-use Rattle.reduction.specs.Reduction.{piece, live, reduced}
+use Rattle.reduction.specs.Reduction.{piece, live}
 use Rattle.reduction.specs.Steps.{Begins, liveBytes, reducedRanges, Listed}
-use Rattle.reduction.specs.Keeping.{firstAt, lastAt, SameStretch, Innermost, Keeps, Marked, beginsRun, RunTo, ofFirst, withRuns, Gathered, Passed}
+use Rattle.reduction.specs.Keeping.{firstAt, lastAt, SameStretch, Keeps, Marked, beginsRun, RunTo, ofFirst, withRuns, Gathered, Passed}
 use Rattle.reduction.proofs.Unless.{lt-unless}
 use Rattle.reduction.proofs.Grid.{Before, FileOrder, in-append, append-l, append-r, those-ordered, ordered-same}
 use Rattle.reduction.proofs.Stretches.{stretches-facts}
@@ -32,7 +30,7 @@ use Rattle.reduction.proofs.RunOrStretch.{plain, first}
 use Rattle.reduction.proofs.Smallest.{reduced-count}
 use Rattle.reduction.proofs.HandedOn.{lives-same}
 use Rattle.reduction.proofs.StretchPlaces.{stretch-of, bound-some, stretch-order}
-use Rattle.reduction.proofs.Marking.{KeptAt, keeps-reduced, reduced-kept}
+use Rattle.reduction.proofs.Marking.{keeps-reduced, reduced-kept}
 
 -- Lists.
 

@@ -1,6 +1,6 @@
 -- What the steps of the reduction hand on as lists, read place by place.
 use Prim.Native.Nat.{ℕ, zero, suc, _+_, _-_, _≤_, _<_}
-use mathlib.Core.Bool.{Bool, true, false, not, cond, _&&_, _||_}
+use mathlib.Core.Bool.{Bool, true, false, not, cond, _||_}
 use mathlib.Core.List.{List, [], _∷_, _++_, map}
 use mathlib.Core.Logic.{_⊎_, inl, inr, ⊎-elim}
 use mathlib.Core.Path.{_≡_, refl, sym, _∙_, ap, subst}
@@ -11,7 +11,7 @@ use lib.ListN.{length, getD, List·getD-eq-default, List·getD-append}
 use borrow.Author.Tests.{ne-eqb, not-true}
 use Rattle.reader.specs.Lists.{tabulate}
 use Rattle.reader.specs.Bytes.{IsBytes}
-use Rattle.reader.specs.Family.{Region, Family, regionCount, region, familyOf}
+use Rattle.reader.specs.Family.{Family, regionCount, region, familyOf}
 use Rattle.reader.specs.Nesting.{parent, parents}
 use Rattle.reader.specs.Causes.{Accepted}
 use Rattle.reader.specs.WellFormed.{WellFormed, IsParent, ParentsBelow}
@@ -148,12 +148,14 @@ module _ {F : Family} (w : WellFormed F) (k : ℕ) (h : k < regionCount F) where
     where
       go : LastAround k → (c : ℕ) × IsParent F k c
       go (none f) = (0, record { earlier = omega arith; around = λ j e. absurd (omega arith); innermost = λ i l e. absurd (f i l e) })
-      go (one j l q f) =
-          (suc j, record {
-            earlier = l;
-            around = λ i e. let d : j ≡ i = omega arith in rw (← d) q;
-            innermost = λ i m e. (omega (arith, f i m e), subst (λ (t : ℕ). region F t .last ≤ region F i .last) (omega arith) (inner i (f i m e) e));
-          })
+      go (one j l q f) = (
+        suc j,
+        record {
+          earlier = l;
+          around = λ i e. let d : j ≡ i = omega arith in rw (← d) q;
+          innermost = λ i m e. (omega (arith, f i m e), subst (λ (t : ℕ). region F t .last ≤ region F i .last) (omega arith) (inner i (f i m e) e));
+        },
+      )
         where
           inner : (i : ℕ) → i ≤ j → region F k .last ≤ region F i .last → region F j .last ≤ region F i .last
           inner i m e =

@@ -1,23 +1,22 @@
 -- The stretches of the regions of a well-formed family, by the regions' places in the file.
-use Prim.Native.Nat.{ℕ, suc, _+_, _≤_, _<_}
-use mathlib.Core.Bool.{true, false, cond}
-use mathlib.Core.List.{List}
+use Prim.Native.Nat.{ℕ, _+_, _≤_, _<_}
+use mathlib.Core.Bool.{true, false}
 use mathlib.Core.Logic.{_⊎_, inl, inr, ⊎-elim}
-use mathlib.Core.Path.{_≡_, refl, sym, _∙_, ap}
+use mathlib.Core.Path.{_≡_, sym, _∙_, ap}
 use native.Mathlib.Nat.{eq-or-lt-of-le}
 use native.Mathlib.Omega.{arith}
-use lib.Dec.{eqb, leb}
-use borrow.Author.Tests.{eqb-true, eqb-false, ne-eqb}
-use Rattle.reader.specs.Family.{Region, Family, regionCount, region}
+use lib.Dec.{eqb}
+use borrow.Author.Tests.{eqb-false, ne-eqb}
+use Rattle.reader.specs.Family.{Family, regionCount, region}
 use Rattle.reader.specs.WellFormed.{WellFormed}
 use Rattle.bounds.specs.Ranges.{Range, rangeOf, rangesOf, has}
-use Rattle.bounds.proofs.Members.{In, test, le-or-lt}
+use Rattle.bounds.proofs.Members.{test, le-or-lt}
 use Rattle.bounds.proofs.Nesting.{Inside, inside-self, has-facts}
 use Rattle.bounds.proofs.Laminar.{Laminar, Fit, isInside, isAround, isBefore, isAfter, fit, meet, member-hosts}
 use Rattle.bounds.proofs.Family.{range-in, family-laminar}
-use Rattle.reduction.specs.Reduction.{live, livePeptides, firstOf, lastOf}
+use Rattle.reduction.specs.Reduction.{livePeptides, firstOf, lastOf}
 use Rattle.reduction.specs.Steps.{firstLive, lastLive}
-use Rattle.reduction.specs.Keeping.{firstAt, lastAt, SameStretch, Outward}
+use Rattle.reduction.specs.Keeping.{firstAt, lastAt, Outward}
 use Rattle.reduction.proofs.FirstLast.{firstOf-atMost, firstOf-is, lastOf-is}
 use Rattle.reduction.proofs.Live.{live-facts}
 use Rattle.reduction.proofs.Stretches.{StretchOf, live-in, in-live, its-stretch}

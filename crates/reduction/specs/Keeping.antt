@@ -118,7 +118,7 @@ pub record Gathered (F : Family) (t : Range → Bool) (q n : ℕ) (A B Z : List 
   pub bounds : Begins (map (λ x. x .z) (those (withRuns F t q) (reducedRanges F))) Z
   pub earlier : (x : Range) → In x (reducedRanges F) → live (rangesOf F) (x .from) ≡ true → t x ≡ true → x .from < q
 
--- Where the k-th region comes next, the kept stretches before it begin before q, and those from it on no earlier than at q - 1.
+-- Runs are looked for from peptide q on, where the k-th region comes next: no kept stretch from there on begins before q - 1.
 pub record Passed (F : Family) (C : List ℕ) (k q : ℕ) : Type 0 where
   pub positive : 1 ≤ q
   pub small : q ≤ F .peptides + 1

@@ -45,7 +45,15 @@ fn same_stretch(firsts: &[u16], lasts: &[u16], i: u16, k: u16) -> bool
 
 // The weights of the k-th region, from those of its parent. What is around a region with a stretch has one too,
 // and regions with the same stretch follow each other outward.
-fn weigh_region(file: &[u8], parents: &[u16], firsts: &[u16], lasts: &[u16], least: &[u16], around: &[u16], k: u16) -> Weights
+fn weigh_region(
+    file: &[u8],
+    parents: &[u16],
+    firsts: &[u16],
+    lasts: &[u16],
+    least: &[u16],
+    around: &[u16],
+    k: u16,
+) -> Weights
     requires { ⌜ Known (familyOf (now file)) (now firsts) (now lasts) ⌝ }
     requires { ⌜ ParentsBelow (familyOf (now file)) (now parents) (regionCount (familyOf (now file))) ⌝ }
     requires { ⌜ WeighedBelow (familyOf (now file)) (now least) (now around) k ⌝ }
@@ -77,7 +85,14 @@ fn weigh_region(file: &[u8], parents: &[u16], firsts: &[u16], lasts: &[u16], lea
 }
 
 // Writes the weights of every region.
-fn weigh(file: &[u8], parents: &[u16], firsts: &[u16], lasts: &[u16], least: &mut [u16], around: &mut [u16])
+fn weigh(
+    file: &[u8],
+    parents: &[u16],
+    firsts: &[u16],
+    lasts: &[u16],
+    least: &mut [u16],
+    around: &mut [u16],
+)
     requires { ⌜ Known (familyOf (now file)) (now firsts) (now lasts) ⌝ }
     requires { ⌜ ParentsBelow (familyOf (now file)) (now parents) (regionCount (familyOf (now file))) ⌝ }
     requires { ⌜ regionCount (familyOf (now file)) ≤ length (now least) ⌝ }
@@ -106,7 +121,15 @@ fn repeats(firsts: &[u16], lasts: &[u16], number: u16, k: u16) -> bool
 
 // The z of the k-th region's stretch if it is kept and no later region has it, else 0. `next` is the number, from 1,
 // of the next region with a stretch, or 0. Of regions with the same stretch only the last, innermost one knows the room.
-fn kept_bound(totals: &[u16], firsts: &[u16], lasts: &[u16], least: &[u16], around: &[u16], next: u16, k: u16) -> u16
+fn kept_bound(
+    totals: &[u16],
+    firsts: &[u16],
+    lasts: &[u16],
+    least: &[u16],
+    around: &[u16],
+    next: u16,
+    k: u16,
+) -> u16
     ensures { λ r. ⌜ r ≡ keptBound (now (firsts .entry)) (now (lasts .entry)) (now (totals .entry)) (now (least .entry)) (now (around .entry)) next k ⌝ }
 {
     if nth(firsts, k) == 0 {
@@ -124,7 +147,15 @@ fn kept_bound(totals: &[u16], firsts: &[u16], lasts: &[u16], least: &[u16], arou
 
 // Writes the z of each kept stretch at its innermost region, and 0 at every other region. From the last region to the
 // first, so that the next region with a stretch is at hand.
-fn mark_kept(file: &[u8], totals: &[u16], firsts: &[u16], lasts: &[u16], least: &[u16], around: &[u16], kept: &mut [u16])
+fn mark_kept(
+    file: &[u8],
+    totals: &[u16],
+    firsts: &[u16],
+    lasts: &[u16],
+    least: &[u16],
+    around: &[u16],
+    kept: &mut [u16],
+)
     requires { ⌜ Known (familyOf (now file)) (now firsts) (now lasts) ⌝ }
     requires { ⌜ TotalsBelow (familyOf (now file)) (now totals) ⌝ }
     requires { ⌜ WeighedBelow (familyOf (now file)) (now least) (now around) (regionCount (familyOf (now file))) ⌝ }
@@ -180,7 +211,16 @@ fn run_end(live: &[u8], p: u16, peptides: u16) -> u16
 }
 
 // Lists the runs that begin from `begin` on, before `end`, after the `count` ranges listed so far; returns how many there are then.
-fn append_runs(file: &[u8], live: &[u8], begin: u16, end: u16, from: &mut [u16], to: &mut [u16], bounds: &mut [u16], count: u16) -> u16
+fn append_runs(
+    file: &[u8],
+    live: &[u8],
+    begin: u16,
+    end: u16,
+    from: &mut [u16],
+    to: &mut [u16],
+    bounds: &mut [u16],
+    count: u16,
+) -> u16
     requires { ⌜ RunsAhead (familyOf (now file)) (now live) begin end (now from) (now to) (now bounds) ⌝ }
     requires { ⌜ Somehow (familyOf (now file)) begin count (now from) (now to) (now bounds) ⌝ }
     ensures { λ r. ⌜ ((t : Range → Bool) → Gathered (familyOf (now (file .entry))) t begin count (now (from .entry)) (now (to .entry)) (now (bounds .entry)) → Gathered (familyOf (now (file .entry))) t end r (now (from .exit)) (now (to .exit)) (now (bounds .exit))) ⌝ }
@@ -203,7 +243,16 @@ fn append_runs(file: &[u8], live: &[u8], begin: u16, end: u16, from: &mut [u16],
 }
 
 // Lists the kept stretches in file order, each after the runs that begin before it.
-fn gather(file: &[u8], live: &[u8], firsts: &[u16], lasts: &[u16], kept: &[u16], from: &mut [u16], to: &mut [u16], bounds: &mut [u16]) -> u16
+fn gather(
+    file: &[u8],
+    live: &[u8],
+    firsts: &[u16],
+    lasts: &[u16],
+    kept: &[u16],
+    from: &mut [u16],
+    to: &mut [u16],
+    bounds: &mut [u16],
+) -> u16
     requires { ⌜ Known (familyOf (now file)) (now firsts) (now lasts) ⌝ }
     requires { ⌜ Marked (familyOf (now file)) (now kept) 0 ⌝ }
     requires { ⌜ RunsAhead (familyOf (now file)) (now live) 1 (familyOf (now file) .peptides + 1) (now from) (now to) (now bounds) ⌝ }
@@ -233,7 +282,17 @@ fn gather(file: &[u8], live: &[u8], firsts: &[u16], lasts: &[u16], kept: &[u16],
 }
 
 // The reduced ranges in file order: the first peptide, the last one and the bound of each; returns how many there are.
-pub(crate) fn list_reduced(file: &[u8], parents: &[u16], totals: &[u16], live: &[u8], firsts: &[u16], lasts: &[u16], from: &mut [u16], to: &mut [u16], bounds: &mut [u16]) -> u16
+pub(crate) fn list_reduced(
+    file: &[u8],
+    parents: &[u16],
+    totals: &[u16],
+    live: &[u8],
+    firsts: &[u16],
+    lasts: &[u16],
+    from: &mut [u16],
+    to: &mut [u16],
+    bounds: &mut [u16],
+) -> u16
     requires { ⌜ Parented (now file) (now parents) ⌝ }
     requires { ⌜ Totalled (now file) (now totals) ⌝ }
     requires { ⌜ Stretched (now file) (now live) (now firsts) (now lasts) ⌝ }

@@ -1,8 +1,6 @@
 -- A run begins at a dead peptide that is the first one or follows a live one.
 use denote.Ref.{now}
-use mathlib.Core.Bool.{true, false, not, _||_}
-use mathlib.Core.Path.{_≡_, sym, _∙_}
-use native.Mathlib.Omega.{arith}
+use mathlib.Core.Path.{sym, _∙_}
 use Rattle.bounds.specs.Selections.{selected}
 use Rattle.reduction.proofs.HandedOn.{begins-not, begins-first, begins-after}
 use borrow.Author.Needs.{needs}

@@ -1,11 +1,5 @@
 -- The byte of peptide p is the one at place p - 1; past the end of the list and at 0 there is none.
 use denote.Ref.{now}
-use Prim.Native.Nat.{suc, _-_}
-use mathlib.Core.Path.{_≡_, refl, sym, _∙_, ap}
-use native.Mathlib.Omega.{arith}
-use lib.Dec.{eqb}
-use lib.ListN.{getD}
-use Rattle.bounds.specs.Selections.{selected}
 use Rattle.reduction.proofs.HandedOn.{selected-none, selected-at, selected-past}
 use borrow.Author.Needs.{needs}
 use Rattle.reduction.proofs.keep.is_live.Statement.{statement}

@@ -1,9 +1,7 @@
 -- The three steps, from the lists that are handed in.
 use denote.Ref.{now}
-use Prim.Native.Nat.{ℕ, _+_, _≤_}
-use mathlib.Core.Path.{_≡_}
+use Prim.Native.Nat.{_≤_}
 use native.Mathlib.Omega.{arith}
-use lib.ListN.{length}
 use Rattle.reader.specs.Bytes.{IsBytes}
 use Rattle.reader.specs.Family.{familyOf, regionCount}
 use Rattle.reduction.specs.Keeping.{Known}

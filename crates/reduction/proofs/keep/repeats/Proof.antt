@@ -1,7 +1,5 @@
 -- No region has the number 0.
-use mathlib.Core.Path.{sym, _∙_}
 use borrow.Author.Tests.{ne-eqb}
-use denote.Ref.{now}
 use borrow.Author.Needs.{needs}
 use Rattle.reduction.proofs.keep.repeats.Statement.{statement}
 use Rattle.reduction.proofs.keep.repeats.Tie as tie

@@ -1,8 +1,6 @@
 -- The three cases: no parent, a parent with the same stretch, a parent with another one.
 use denote.Ref.{now}
-use Prim.Native.Nat.{ℕ}
 use mathlib.Core.Path.{sym, _∙_, subst}
-use native.Mathlib.Omega.{arith}
 use Rattle.reader.specs.Family.{familyOf, region}
 use Rattle.reader.specs.WellFormed.{IsParent}
 use Rattle.reader.proofs.Parsed.{held-z}
