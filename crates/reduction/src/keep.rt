@@ -13,7 +13,8 @@ ghost use Rattle.bounds.specs.Selections.{selected};
 ghost use Rattle.reduction.specs.Steps.{Parented, Stretched, Totalled, Listed};
 ghost use Rattle.reduction.specs.Keeping.{Known, sameEnds, firstAt, Weighed, WeighedBelow, TotalsBelow, keptBound, Marked, beginsRun, RunTo, Gathered, RunsAhead, Somehow};
 
-// Going outward from a region: the smallest z of its stretch, and the smallest z of the other stretches.
+// Going outward from a region: the smallest z of its stretch, and the smallest z of the other stretches. Where there is
+// no other, 65,535 stands for it: a kept z is less than its room, a 16-bit number, and so less than 65,535.
 struct Weights {
     least: u16,
     around: u16,
@@ -70,17 +71,17 @@ fn weigh_region(
         };
     }
     let parent = number - 1;
-    let inner = nth(least, parent);
-    let outer = nth(around, parent);
+    let parent_least = nth(least, parent);
+    let parent_around = nth(around, parent);
     if same_stretch(firsts, lasts, parent, k) {
         return Weights {
-            least: smaller(z, inner),
-            around: outer,
+            least: smaller(z, parent_least),
+            around: parent_around,
         };
     }
     Weights {
         least: z,
-        around: smaller(inner, outer),
+        around: smaller(parent_least, parent_around),
     }
 }
 
@@ -210,7 +211,8 @@ fn run_end(live: &[u8], p: u16, peptides: u16) -> u16
     last
 }
 
-// Lists the runs that begin from `begin` on, before `end`, after the `count` ranges listed so far; returns how many there are then.
+// Lists the runs that begin from `begin` on, before `end`, after the `count` ranges listed so far; returns how many there
+// are then. It holds for any choice of stretches listed so far, as long as these begin before `begin`.
 fn append_runs(
     file: &[u8],
     live: &[u8],
@@ -242,7 +244,8 @@ fn append_runs(
     n
 }
 
-// Lists the kept stretches in file order, each after the runs that begin before it.
+// Lists the kept stretches in file order, each after the runs that begin before it. A stretch begins live and a run dead,
+// so the runs up to the first peptide of a stretch all come before it.
 fn gather(
     file: &[u8],
     live: &[u8],
