@@ -45,3 +45,10 @@ pub mod Curves
 pub mod OneForm
 pub mod OneFile
 pub mod Examples
+-- the code that finds the kept stretches and lists the reduced ranges
+pub mod HandedOn
+pub mod StretchPlaces
+pub mod Weighing
+pub mod Marking
+pub mod Bounding
+pub mod Gathering

@@ -3,4 +3,5 @@ pub mod Reduction
 pub mod Alike
 pub mod Steps
 pub mod Passes
+pub mod Keeping
 pub mod Calls

@@ -1,5 +1,6 @@
 // The reduced file of a family, the one form in which its bounds are printed, and the comparison of two families.
 mod stretch;
+mod keep;
 
 // The reduced file's length and number of regions, or the number of the first cause that holds.
 pub enum ReducedFile {
