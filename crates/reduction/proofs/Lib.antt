@@ -35,6 +35,9 @@ pub mod Depth
 pub mod Cuts
 pub mod FewerLeaves
 pub mod Accepted
+-- the bytes of the written family
+pub mod NumberRows
+pub mod LeafEnds
 -- the one form
 pub mod Curves
 pub mod OneForm

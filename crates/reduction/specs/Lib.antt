@@ -3,3 +3,4 @@ pub mod Reduction
 pub mod Alike
 pub mod Steps
 pub mod Calls
+pub mod Writing
