@@ -7,7 +7,7 @@ use mathlib.Core.Path.{_≡_, refl, sym, ap, _∙_}
 use native.Mathlib.Nat.{eq-or-lt-of-le}
 use native.Mathlib.Numerals.{add-one}
 use native.Mathlib.Omega.{arith}
-use lib.ListN.{length, getD, set, length-append, length-set}
+use lib.ListN.{length, getD, set, replicate, length-append, length-set}
 use lib.Seq.{getD-set-same, getD-set-other}
 use lib.Dec.{eqb}
 use borrow.Author.Tests.{eqb-true, eqb-false, eq-eqb, ne-eqb}
@@ -21,6 +21,11 @@ use Rattle.reduction.proofs.Leaves.{leaves-count}
 use Rattle.reduction.proofs.NumberRows.{numbers-none, numbers-join}
 
 -- Marks.
+
+pub zeros : (n p : ℕ) → _≡_ {A = ℕ} (getD (replicate n 0) p 0) 0
+zeros zero p = refl
+zeros (suc n) zero = refl
+zeros (suc n) (suc p) = zeros n p
 
 -- one place more is marked
 mark-more : (E : List ℕ) (X : Peptides) (i : ℕ) → i < length E → Marks E X → Marks (set E i 1) (λ p. eqb p i || X p)
@@ -73,6 +78,9 @@ marked-set E X marks = λ i p. (ap (λ (n : ℕ). eqb n 1) (marks p) ∙ back (X
     back true = refl
     back false = refl
 
+pub marks-itself : (E : List ℕ) (X : Peptides) → Marks E X → Marks E (markedIn E)
+marks-itself E X marks = rw (marked-set E X marks) marks
+
 -- Counts.
 
 module _ (E C : List ℕ) where
@@ -81,6 +89,9 @@ module _ (E C : List ℕ) where
   counts-first e p h =
       let z : p ≡ 0 = omega arith in
       rw z e
+
+  pub counts-small : (m : ℕ) → Counts m E C → (p : ℕ) → p ≤ m → getD C p 0 ≤ m
+  counts-small m counts p h = omega (arith, counts p h, card-most p (markedIn E))
 
   module _ (p : ℕ) (marks : Marks E (markedIn E)) (counts : Counts p E C) where
     next-count : getD C p 0 + getD E (p + 1) 0 ≡ card (p + 1) (markedIn E)

@@ -38,6 +38,7 @@ pub mod Accepted
 -- the bytes of the written family
 pub mod NumberRows
 pub mod LeafEnds
+pub mod WholeFile
 -- the one form
 pub mod Curves
 pub mod OneForm

@@ -10,7 +10,7 @@ use lib.Seq.{sets, length-sets, length-take-le, take-suc}
 use Rattle.reader.specs.Bytes.{bytesOf}
 use Rattle.reduction.specs.Writing.{withNumbers}
 
-bytes-length : (ns : List ℕ) → length (bytesOf ns) ≡ 2 * length ns
+pub bytes-length : (ns : List ℕ) → length (bytesOf ns) ≡ 2 * length ns
 unfolding bytesOf
 bytes-length [] = refl
 bytes-length (n ∷ ns) = omega (arith, bytes-length ns)

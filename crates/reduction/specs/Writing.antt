@@ -8,12 +8,17 @@ use lib.Seq.{sets}
 use lib.Dec.{eqb}
 use Rattle.reader.specs.Lists.{someBelow}
 use Rattle.reader.specs.Bytes.{numberAt, bytesOf}
+use Rattle.reader.specs.Family.{lengthsOffset, regionsOffset, totalLength}
 use Rattle.bounds.specs.Ranges.{Peptides, card}
 use Rattle.reduction.specs.Reduction.{rising, reducedFile}
 
 -- a list of bytes with the numbers written over it from an offset on, 2 bytes each
 unfoldable pub withNumbers : List ℕ → ℕ → List ℕ → List ℕ
 withNumbers out at ns = sets out at (bytesOf ns)
+
+-- the six numbers after the mark, of a family with N leaves and K regions
+abbrev pub headerNumbers : ℕ → ℕ → ℕ → List ℕ
+headerNumbers m N K = m ∷ N ∷ K ∷ lengthsOffset ∷ regionsOffset N ∷ totalLength N K ∷ []
 
 -- n ranges, by first and last peptide, on the line of the peptides 1 to m
 pub record OnLine (m n : ℕ) (A B : List ℕ) : Type 0 where

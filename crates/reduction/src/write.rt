@@ -3,16 +3,17 @@
 use crate::Size;
 use reader::bytes::number_at;
 ghost use mathlib.Core.Path.{_≡_};
-ghost use mathlib.Core.List.{[], _∷_};
+ghost use mathlib.Core.List.{[], _∷_, _++_};
 ghost use Prim.Native.Nat.{ℕ, _+_, _*_, _<_, _≤_};
 ghost use lib.ListN.{length, getD};
 ghost use lib.Seq.{sets};
+ghost use Rattle.reader.specs.Bytes.{bytesOf};
 ghost use Rattle.reader.specs.Family.{mark};
 ghost use Rattle.reader.specs.Causes.{Accepted};
 ghost use Rattle.bounds.specs.Ranges.{card};
 ghost use Rattle.reduction.specs.Reduction.{leafLengths};
 ghost use Rattle.reduction.specs.Steps.{Listed};
-ghost use Rattle.reduction.specs.Writing.{withNumbers, OnLine, endsAt, Marks, markedIn, Counts, regionNumbers, Wrote};
+ghost use Rattle.reduction.specs.Writing.{withNumbers, headerNumbers, OnLine, endsAt, Marks, markedIn, Counts, regionNumbers, Wrote};
 
 // Writes a number as two bytes, low byte first.
 fn put_number(out: &mut [u8], at: usize, n: u16)
@@ -44,6 +45,22 @@ fn put_mark(out: &mut [u8])
     out[1] = mark[1];
     out[2] = mark[2];
     out[3] = mark[3];
+}
+
+// Writes the mark and the six numbers of the header; the answer is the last of them, the length of the file.
+fn write_header(m: u16, leaves: u16, regions: u16, out: &mut [u8]) -> u16
+    requires { ⌜ leaves ≤ 4096 ⌝ }
+    requires { ⌜ regions ≤ 8191 ⌝ }
+    requires { ⌜ 16 ≤ length (now out) ⌝ }
+    ensures { λ r. ⌜ r ≡ 16 + 2 * leaves + 6 * regions ⌝ }
+    ensures { λ _. ⌜ now (out .exit) ≡ sets (now (out .entry)) 0 (mark ++ bytesOf (headerNumbers m leaves regions)) ⌝ }
+{
+    let regions_at = 16 + 2 * leaves;
+    let total = regions_at + 6 * regions;
+    let numbers = [m, leaves, regions, 16, regions_at, total];
+    put_mark(out);
+    put_numbers(out, 4, &numbers);
+    total
 }
 
 // Marks where leaves end. Place 0 is marked too where a range begins at peptide 1; nobody asks there.
@@ -128,13 +145,9 @@ pub(crate) fn write_reduced(file: &[u8], n: u16, from: &[u16], to: &[u16], bound
     let mut counts = [0u16; 4097];
     count_ends(m, &ends, &mut counts);
     let leaves = counts[m as usize];
-    let regions_at = 16 + 2 * leaves;
-    let total = regions_at + 6 * n;
-    put_mark(out);
-    let header = [m, leaves, n, 16, regions_at, total];
-    put_numbers(out, 4, &header);
+    let total = write_header(m, leaves, n, out);
     write_lengths(m, &ends, out);
-    write_regions(m, n, from, to, bounds, &counts, regions_at as usize, out);
+    write_regions(m, n, from, to, bounds, &counts, 16 + 2 * (leaves as usize), out);
     Size {
         bytes: total,
         regions: n,
