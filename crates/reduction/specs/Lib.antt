@@ -4,3 +4,5 @@ pub mod Alike
 pub mod Steps
 pub mod Calls
 pub mod Writing
+pub mod FileChecks
+pub mod Passes
