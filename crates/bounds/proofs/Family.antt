@@ -4,6 +4,7 @@ use mathlib.Core.List.{List, [], _∷_}
 use mathlib.Core.Logic.{_⊎_, ⊎-elim}
 use mathlib.Core.Path.{_≡_}
 use native.Mathlib.Nat.{eq-or-lt-of-le}
+use native.Mathlib.Numerals.{add-one}
 use native.Mathlib.Omega.{arith}
 use lib.ListN.{length, getD, take, length-map, List·getD-map}
 use lib.Seq.{take-length}
@@ -11,8 +12,10 @@ use Rattle.reader.specs.Lists.{sum}
 use Rattle.reader.specs.Bytes.{IsBytes}
 use Rattle.reader.specs.Causes.{Accepted}
 use Rattle.reader.specs.WellFormed.{WellFormed}
+use Rattle.reader.proofs.Parsed.{length-leaf}
+use Rattle.reader.proofs.Walk.{up-to-next}
 use Rattle.reader.proofs.Accepting.{well-formed}
-use Rattle.reader.specs.Family.{Region, Family, leaves, regionCount, region, peptidesUpTo, familyOf}
+use Rattle.reader.specs.Family.{Region, Family, leaves, regionCount, region, leafLength, peptidesUpTo, familyOf}
 use Rattle.bounds.specs.Ranges.{Range, rangeOf, rangesOf}
 use Rattle.bounds.proofs.Members.{In, in-at}
 use Rattle.bounds.proofs.Laminar.{Fit, isAround, isBefore, Proper, Laminar, laminar-at}
@@ -25,13 +28,17 @@ sum-take (suc i) (suc j) [] h = omega arith
 sum-take (suc i) (suc j) (x ∷ L) h = omega (arith, sum-take i j L (omega arith))
 
 -- more leaves have no fewer peptides
-upTo-mono : (F : Family) (i j : ℕ) → i ≤ j → peptidesUpTo F i ≤ peptidesUpTo F j
+pub upTo-mono : (F : Family) (i j : ℕ) → i ≤ j → peptidesUpTo F i ≤ peptidesUpTo F j
 unfolding peptidesUpTo
 upTo-mono F i j h = sum-take i j (F .lengths) h
 
-upTo-most : (F : Family) (i : ℕ) → i ≤ leaves F → peptidesUpTo F i ≤ sum (F .lengths)
+pub upTo-most : (F : Family) (i : ℕ) → i ≤ leaves F → peptidesUpTo F i ≤ sum (F .lengths)
 unfolding peptidesUpTo
 upTo-most F i h = rw take-length at (sum-take i (leaves F) (F .lengths) h)
+
+-- one leaf more
+pub upTo-leaf : (F : Family) (j : ℕ) → peptidesUpTo F (j + 1) ≡ peptidesUpTo F j + leafLength F (j + 1)
+upTo-leaf F j = rw (add-one, length-leaf F j) (rw add-one at (up-to-next F j))
 
 -- How the ranges of two regions lie, by their leaf numbers.
 
@@ -48,14 +55,14 @@ inside-fit F r q first last less =
 
 -- The range of the k-th region.
 
-abbrev noRange : Family → Range
+abbrev pub noRange : Family → Range
 noRange F = rangeOf F (record { first = 0; last = 0; z = 0 })
 
 pub ranges-length : (F : Family) → length (rangesOf F) ≡ regionCount F
 unfolding rangesOf
 ranges-length F = length-map (F .regions) (rangeOf F)
 
-range-at : (F : Family) (k : ℕ) → getD (rangesOf F) k (noRange F) ≡ rangeOf F (region F k)
+pub range-at : (F : Family) (k : ℕ) → getD (rangesOf F) k (noRange F) ≡ rangeOf F (region F k)
 unfolding rangesOf region
 range-at F k = List·getD-map (rangeOf F) (F .regions) k (record { first = 0; last = 0; z = 0 })
 

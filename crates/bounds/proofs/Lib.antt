@@ -9,3 +9,14 @@ pub mod Formula
 pub mod Paths
 pub mod Taken
 pub mod Family
+pub mod Selecting
+pub mod RowTotals
+pub mod RowWalk
+pub mod TakenBytes
+pub mod SelectionCalls
+pub mod Theorems
+pub mod Holding
+pub mod Walking
+pub mod PathLaws
+pub mod Answering
+pub mod CurveTheorem

@@ -1,6 +1,6 @@
 -- What the calls of `bounds` answer and write, defined from their inputs.
 use Prim.Native.Nat.{ℕ, _+_, _≤_}
-use mathlib.Core.Bool.{Bool, true, _||_}
+use mathlib.Core.Bool.{Bool, true, false, _||_}
 use mathlib.Core.List.{List, [], _∷_, _++_}
 use mathlib.Core.Path.{_≡_}
 use lib.ListN.{length}
@@ -27,6 +27,12 @@ unfoldable pub reportCurve : Curved → Report
 reportCurve curved.Written = record { number = 0; values = [] }
 reportCurve (curved.Refused n) = record { number = n; values = [] }
 reportCurve (curved.Repeated p) = record { number = 13; values = p ∷ [] }
+
+-- whether the answer is a refusal: nothing but the number tells an answer without values from one
+unfoldable pub declinedCurve : Curved → Bool
+declinedCurve curved.Written = false
+declinedCurve (curved.Refused n) = true
+declinedCurve (curved.Repeated p) = true
 
 unfoldable pub reportCut : CutFound → Report
 reportCut (cutFound.At t) = record { number = 0; values = t ∷ [] }

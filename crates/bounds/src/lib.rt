@@ -1,4 +1,28 @@
 // The bound of a selection with its taken regions, the curve along a path with its marks, and the cut.
+mod cursor;
+mod path;
+mod rows;
+mod selection;
+mod taking;
+mod walk;
+
+use path::Admitted;
+use path::admit;
+use rows::line_value;
+use selection::selection_cause;
+use taking::write_taken;
+use walk::find_cut;
+use walk::write_curve;
+ghost use mathlib.Core.Path.{_≡_};
+ghost use mathlib.Core.List.{[], _∷_};
+ghost use mathlib.Core.Bool.{not};
+ghost use lib.Dec.{eqb};
+ghost use Rattle.reader.specs.Causes.{firstCause};
+ghost use Rattle.reader.specs.Family.{familyOf};
+ghost use Rattle.reader.specs.Calls.{answer, written};
+ghost use Rattle.bounds.specs.Selections.{boundOf, takenOf, totalsOf};
+ghost use Rattle.bounds.specs.Curves.{curveValues, curveMarks, cutOf};
+ghost use Rattle.bounds.specs.Calls.{Answers, selectionCauses, reportBound, curveCauses, reportCurve, declinedCurve, cutCauses, reportCut};
 
 // A bound, or the number of the first cause that holds.
 pub enum Bounded {
@@ -18,4 +42,77 @@ pub enum CutFound {
     At(u16),
     Refused(u16),
     Repeated(u16),
+}
+
+// The bound of a selection, and for each region, in file order, 1 if it is taken, else 0.
+pub fn bound(file: &[u8], selection: &[u8], taken: &mut [u8]) -> Bounded
+    ensures { λ r. ⌜ reportBound r ≡ answer (selectionCauses (now (file .entry)) (now (selection .entry)) (now (taken .entry))) (boundOf (familyOf (now (file .entry))) (now (selection .entry)) ∷ []) ⌝ }
+    ensures { λ _. ⌜ now (taken .exit) ≡ written (selectionCauses (now (file .entry)) (now (selection .entry)) (now (taken .entry))) (takenOf (familyOf (now (file .entry))) (now (selection .entry))) (now (taken .entry)) ⌝ }
+{
+    let cause = selection_cause(file, selection, taken.len());
+    if cause != 0 {
+        return Bounded::Refused(cause);
+    }
+    let mut totals = [0u16; 8191];
+    let value = line_value(file, selection, &mut totals);
+    write_taken(file, &totals, taken);
+    Bounded::Bound(value)
+}
+
+// The bound of a selection, and for each region, in file order, its inside total.
+pub fn inside_totals(file: &[u8], selection: &[u8], out: &mut [u16]) -> Bounded
+    ensures { λ r. ⌜ reportBound r ≡ answer (selectionCauses (now (file .entry)) (now (selection .entry)) (now (out .entry))) (boundOf (familyOf (now (file .entry))) (now (selection .entry)) ∷ []) ⌝ }
+    ensures { λ _. ⌜ now (out .exit) ≡ written (selectionCauses (now (file .entry)) (now (selection .entry)) (now (out .entry))) (totalsOf (familyOf (now (file .entry))) (now (selection .entry))) (now (out .entry)) ⌝ }
+{
+    let cause = selection_cause(file, selection, out.len());
+    if cause != 0 {
+        return Bounded::Refused(cause);
+    }
+    let value = line_value(file, selection, out);
+    Bounded::Bound(value)
+}
+
+// The curve along a path and its marks: entry t is the bound of the first t peptides, mark t is 1 where it is one more
+// than the entry before it. They are written from the start of the lent slices; a declined call leaves these unchanged.
+pub fn curve(file: &[u8], path: &[u16], values: &mut [u16], marks: &mut [u8]) -> Curved
+    ensures { λ r. ⌜ Answers (curveCauses (now (file .entry)) (now (path .entry)) (now (values .entry)) (now (marks .entry))) (now (path .entry)) [] (reportCurve r) ⌝ }
+    ensures { λ _. ⌜ now (values .exit) ≡ written (curveCauses (now (file .entry)) (now (path .entry)) (now (values .entry)) (now (marks .entry))) (curveValues (familyOf (now (file .entry))) (now (path .entry))) (now (values .entry)) ⌝ }
+    ensures { λ _. ⌜ now (marks .exit) ≡ written (curveCauses (now (file .entry)) (now (path .entry)) (now (values .entry)) (now (marks .entry))) (curveMarks (familyOf (now (file .entry))) (now (path .entry))) (now (marks .entry)) ⌝ }
+    ensures { λ r. ⌜ declinedCurve r ≡ not (eqb (firstCause (curveCauses (now (file .entry)) (now (path .entry)) (now (values .entry)) (now (marks .entry)))) 0) ⌝ }
+{
+    let mut parents = [0u16; 8191];
+    match admit(file, path, &mut parents) {
+        Admitted::Yes => {
+            if values.len() <= path.len() {
+                return Curved::Refused(16);
+            }
+            if marks.len() < path.len() {
+                return Curved::Refused(16);
+            }
+            write_curve(file, &parents, path, values, marks);
+            Curved::Written
+        }
+        Admitted::Refused(number) => Curved::Refused(number),
+        Admitted::Repeated(place) => Curved::Repeated(place),
+    }
+}
+
+// The cut at q = a / b: the largest t at which entry t times b is at most a times t.
+pub fn cut(file: &[u8], path: &[u16], a: u16, b: u16) -> CutFound
+    ensures { λ r. ⌜ Answers (cutCauses (now (file .entry)) (now (path .entry)) a b) (now (path .entry)) (cutOf (familyOf (now (file .entry))) (now (path .entry)) a b ∷ []) (reportCut r) ⌝ }
+{
+    let mut parents = [0u16; 8191];
+    match admit(file, path, &mut parents) {
+        Admitted::Yes => {
+            if b == 0 {
+                return CutFound::Refused(15);
+            }
+            if b < a {
+                return CutFound::Refused(15);
+            }
+            CutFound::At(find_cut(file, &parents, path, a, b))
+        }
+        Admitted::Refused(number) => CutFound::Refused(number),
+        Admitted::Repeated(place) => CutFound::Repeated(place),
+    }
 }

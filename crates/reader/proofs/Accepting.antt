@@ -58,6 +58,10 @@ pub header-numbered : (s : List ℕ) → Numbered (headerCauses s)
 unfolding headerCauses
 header-numbered s = (omega arith, (omega arith, (omega arith, (omega arith, (omega arith, tt)))))
 
+pub file-numbered : (s : List ℕ) → Numbered (fileCauses s)
+unfolding headerCauses familyCauses fileCauses
+file-numbered s = omega arith
+
 pub record HeaderClear (s : List ℕ) : Type 0 where
   pub no1 : cause1 s ≡ false
   pub no2 : cause2 (familyOf s) ≡ false

@@ -8,5 +8,6 @@ pub mod Walk
 pub mod First
 pub mod Climbing
 pub mod Accepting
+pub mod ParentLaws
 pub mod Files
 pub mod Examples

@@ -1,4 +1,4 @@
--- The worked examples of the reduction, computed.
+-- The worked examples E1 to E10, computed.
 use Prim.Native.Nat.{ℕ}
 use mathlib.Core.Logic.{_≢_}
 use mathlib.Core.List.{List, [], _∷_}
@@ -8,8 +8,10 @@ use lib.ListN.{getD}
 use Rattle.reader.specs.Lists.{tabulate, sum}
 use Rattle.reader.specs.Bytes.{numberAt, bytesOf}
 use Rattle.reader.specs.Family.{Region, Family, peptidesUpTo, lengthAt, regionAt, familyOf, regionFields, fields, mark, fileOf}
-use Rattle.bounds.specs.Ranges.{rangeOf, rangesOf, has, card, count, some, those, sumOver, within, inside, justInside, parts, outside}
-use Rattle.bounds.specs.Bound.{totalWithin, total}
+use Rattle.bounds.specs.Ranges.{rangeOf, rangesOf, has, card, count, some, those, sumOver, within, inside, justInside, parts, outermost, outside}
+use Rattle.bounds.specs.Bound.{totalWithin, total, value, bound, full, isTaken, takenBytes}
+use Rattle.bounds.specs.Selections.{selected, takenOf}
+use Rattle.bounds.specs.Curves.{among, entry, curveValues, markAt, curveMarks, largestUpTo, cutOf}
 use Rattle.reduction.specs.Reduction.{rising, falling, grid, firstOf, lastOf, dead, live, livePeptides, hasStretch, smallestZ, merged, stretchAt, stretches, room, isKept, isDeadRun, reducedAt, reduced, endsLeaf, leafLengths, regionOf, writtenFamily, reducedFamily, reducedFile}
 
 unfoldable pub region : ℕ → ℕ → ℕ → Region
@@ -53,21 +55,46 @@ reducedThree =
     ∷ 0x03 ∷ 0x00
     ∷ []
 
--- E3, E6, E8 and E10 as bytes; E7: with z = 2 in the first region the reduction differs
-pub record ReducedExamples : Type 0 where
-  pub E3 : reducedFile (fileOf (eightWith 3)) ≡ reducedEight
-  pub E6 : reducedFile (fileOf five) ≡ reducedEight
-  pub E7 : reducedFile (fileOf (eightWith 2)) ≢ reducedEight
-  pub E8 : reducedFile (fileOf (oneLeaf 3 [])) ≡ reducedThree
-  pub E10 : reducedFile (fileOf (oneLeaf 3 (region 1 1 5 ∷ []))) ≡ reducedThree
+-- the path of the eight-peptide family
+unfoldable pub fullPath : List ℕ
+fullPath = 7 ∷ 3 ∷ 1 ∷ 4 ∷ 6 ∷ 2 ∷ 5 ∷ 8 ∷ []
 
-pub reduced-examples : ReducedExamples
-unfolding region eightWith five oneLeaf reducedEight reducedThree tabulate sum numberAt bytesOf peptidesUpTo lengthAt regionAt familyOf regionFields fields mark fileOf rangeOf rangesOf has card count some those sumOver within inside justInside parts outside totalWithin total rising falling grid firstOf lastOf dead live livePeptides hasStretch smallestZ merged stretchAt stretches room isKept isDeadRun reducedAt reduced endsLeaf leafLengths regionOf writtenFamily reducedFamily reducedFile
-reduced-examples =
+-- E1 to E10, on the definitions.
+pub record Examples : Type 0 where
+  -- the values and the marks of the program's output
+  pub E1 :
+      (curveValues (eightWith 3) fullPath ≡ 0 ∷ 0 ∷ 1 ∷ 2 ∷ 2 ∷ 3 ∷ 4 ∷ 4 ∷ 4 ∷ [])
+      × (curveMarks (eightWith 3) fullPath ≡ 0 ∷ 1 ∷ 1 ∷ 0 ∷ 1 ∷ 1 ∷ 0 ∷ 0 ∷ [])
+  -- with all peptides selected, the taken bytes
+  pub E2 : takenOf (eightWith 3) (1 ∷ 1 ∷ 1 ∷ 1 ∷ 1 ∷ 1 ∷ 1 ∷ 1 ∷ []) ≡ 0 ∷ 0 ∷ 1 ∷ 0 ∷ 1 ∷ []
+  pub E3 : reducedFile (fileOf (eightWith 3)) ≡ reducedEight
+  -- q = 1/2 cuts at 8, q = 2/5 at 1
+  pub E4 : cutOf (eightWith 3) fullPath 1 2 ≡ 8
+  pub E5 : cutOf (eightWith 3) fullPath 2 5 ≡ 1
+  pub E6 : reducedFile (fileOf five) ≡ reducedEight
+  -- with z = 2 in the first region the reduction differs; path 3 1 2 gives 0 1 2 2, and 0 1 2 3 before
+  pub E7 :
+      (reducedFile (fileOf (eightWith 2)) ≢ reducedEight)
+      × (curveValues (eightWith 2) (3 ∷ 1 ∷ 2 ∷ []) ≡ 0 ∷ 1 ∷ 2 ∷ 2 ∷ [])
+      × (curveValues (eightWith 3) (3 ∷ 1 ∷ 2 ∷ []) ≡ 0 ∷ 1 ∷ 2 ∷ 3 ∷ [])
+  -- no region: the full path gives 0 1 2 3, the reduction has one leaf
+  pub E8 : (curveValues (oneLeaf 3 []) (1 ∷ 2 ∷ 3 ∷ []) ≡ 0 ∷ 1 ∷ 2 ∷ 3 ∷ []) × (reducedFile (fileOf (oneLeaf 3 [])) ≡ reducedThree)
+  pub E9 : curveValues (oneLeaf 1 (region 1 1 0 ∷ [])) (1 ∷ []) ≡ 0 ∷ 0 ∷ []
+  -- reduces as E8
+  pub E10 : reducedFile (fileOf (oneLeaf 3 (region 1 1 5 ∷ []))) ≡ reducedFile (fileOf (oneLeaf 3 []))
+
+pub examples : Examples
+unfolding region eightWith five oneLeaf reducedEight reducedThree fullPath tabulate sum numberAt bytesOf peptidesUpTo lengthAt regionAt familyOf regionFields fields mark fileOf rangeOf rangesOf has card count some those sumOver within inside justInside parts outermost outside totalWithin total value bound full isTaken takenBytes selected takenOf among entry curveValues markAt curveMarks largestUpTo cutOf rising falling grid firstOf lastOf dead live livePeptides hasStretch smallestZ merged stretchAt stretches room isKept isDeadRun reducedAt reduced endsLeaf leafLengths regionOf writtenFamily reducedFamily reducedFile
+examples =
     record {
+      E1 = (refl, refl);
+      E2 = refl;
       E3 = refl;
+      E4 = refl;
+      E5 = refl;
       E6 = refl;
-      E7 = λ e. let h : _≡_ {A = ℕ} 3 2 = ap (λ s. getD s 8 0) e in omega arith;
-      E8 = refl;
+      E7 = (λ e. let h : _≡_ {A = ℕ} 3 2 = ap (λ s. getD s 8 0) e in omega arith, refl, refl);
+      E8 = (refl, refl);
+      E9 = refl;
       E10 = refl;
     }

@@ -1,0 +1,147 @@
+-- What the calls with a path answer and write, by the first cause that holds.
+use Prim.Native.Nat.{ℕ, _+_}
+use mathlib.Core.Bool.{Bool, true, false, not, _||_}
+use mathlib.Core.List.{List, [], _∷_, _++_, append-assoc}
+use mathlib.Core.Path.{_≡_, refl, sym, ap, _∙_}
+use native.Mathlib.Omega.{arith}
+use lib.ListN.{length, drop}
+use lib.Dec.{eqb}
+use borrow.Author.Tests.{eq-eqb, ne-eqb}
+use Rattle.reader.specs.Family.{Family, familyOf}
+use Rattle.reader.specs.Causes.{Cause, firstCause, headerCauses, familyCauses, fileCauses}
+use Rattle.reader.specs.Calls.{Report, written}
+use Rattle.reader.proofs.Bools.{not-passes, not-fails}
+use Rattle.reader.proofs.Lists.{length-tabulate}
+use Rattle.reader.proofs.First.{Numbered, first-holds, first-fails, join-clear, join-holds, answers, declines, writes, leaves-unchanged}
+use Rattle.bounds.specs.Curves.{curveValues, curveMarks, cutOf, entry, markAt, cause15}
+use Rattle.bounds.specs.Calls.{Answers, short, pathCauses, curveCauses, cutCauses}
+use Rattle.bounds.specs.Walks.{inputCauses}
+use Rattle.bounds.proofs.PathLaws.{RepeatedAt}
+
+module _ (cs : List Cause) (path result : List ℕ) where
+  pub answers-with : firstCause cs ≡ 0 → Answers cs path result (record { number = 0; values = result })
+  answers-with h =
+      record {
+        number = sym h;
+        values = λ n. sym (ap (λ (r : Report). r .values) (answers cs h result));
+        place = λ e. absurd (omega arith);
+      }
+
+  pub declines-with : (n : ℕ) → n ≡ firstCause cs → (n ≡ 0 → ⊥) → (n ≡ 13 → ⊥) → Answers cs path result (record { number = n; values = [] })
+  declines-with n e some other =
+      record {
+        number = e;
+        values = λ h. sym (ap (λ (r : Report). r .values) (declines cs (λ z. some (e ∙ z)) result));
+        place = λ h. absurd (other (e ∙ h));
+      }
+
+  pub repeats-with : (p : ℕ) → firstCause cs ≡ 13 → RepeatedAt path p → Answers cs path result (record { number = 13; values = p ∷ [] })
+  repeats-with p e r =
+      record {
+        number = sym e;
+        values = λ h. absurd (h e);
+        place = λ h. (p, r .some, r .most, refl, r .again);
+      }
+
+-- The causes of a family and a path, and one cause more.
+
+input-numbered : (file path : List ℕ) → Numbered (inputCauses file path)
+unfolding inputCauses fileCauses headerCauses familyCauses pathCauses
+input-numbered file path = omega arith
+
+module _ (file path : List ℕ) (c : Cause) where
+  abbrev joined : List Cause
+  joined = fileCauses file ++ (pathCauses (familyOf file .peptides) path ++ (c ∷ []))
+
+  joined-as : inputCauses file path ++ (c ∷ []) ≡ joined
+  unfolding inputCauses
+  joined-as = append-assoc (fileCauses file) (pathCauses (familyOf file .peptides) path) (c ∷ [])
+
+  joined-input : (firstCause (inputCauses file path) ≡ 0 → ⊥) → firstCause joined ≡ firstCause (inputCauses file path)
+  joined-input h = ap firstCause (sym joined-as) ∙ join-holds (inputCauses file path) (c ∷ []) h
+
+  joined-holds : firstCause (inputCauses file path) ≡ 0 → c .holds ≡ true → firstCause joined ≡ c .number
+  joined-holds h t =
+      ap firstCause (sym joined-as) ∙ join-clear (inputCauses file path) (c ∷ []) (input-numbered file path) h ∙ first-holds c [] t
+
+  joined-none : firstCause (inputCauses file path) ≡ 0 → c .holds ≡ false → firstCause joined ≡ 0
+  unfolding firstCause
+  joined-none h f =
+      ap firstCause (sym joined-as) ∙ join-clear (inputCauses file path) (c ∷ []) (input-numbered file path) h ∙ first-fails c [] f
+
+-- The curve.
+
+module _ (file path values marks : List ℕ) where
+  -- the answer, what stands in the lent lists afterwards, and whether the answer is a refusal
+  abbrev pub CurveDone : Report → List ℕ → List ℕ → Bool → Type 0
+  CurveDone r v w declined =
+      Answers (curveCauses file path values marks) path [] r
+      × ((v ≡ written (curveCauses file path values marks) (curveValues (familyOf file) path) values)
+      × ((w ≡ written (curveCauses file path values marks) (curveMarks (familyOf file) path) marks)
+      × (declined ≡ not (eqb (firstCause (curveCauses file path values marks)) 0))))
+
+  curve-stops : (r : Report) → Answers (curveCauses file path values marks) path [] r → (firstCause (curveCauses file path values marks) ≡ 0 → ⊥)
+      → CurveDone r values marks true
+  curve-stops r a some =
+      let cs : List Cause = curveCauses file path values marks in
+      (a, (sym (leaves-unchanged cs some _ values), (sym (leaves-unchanged cs some _ marks), sym (not-passes (eqb (firstCause cs) 0) (ne-eqb (firstCause cs) 0 some)))))
+
+  pub curve-declines : (n : ℕ) → n ≡ firstCause (inputCauses file path) → (n ≡ 0 → ⊥) → (n ≡ 13 → ⊥) → CurveDone (record { number = n; values = [] }) values marks true
+  unfolding curveCauses
+  curve-declines n e some other =
+      let first = e ∙ sym (joined-input file path _ (λ z. some (e ∙ z))) in
+      curve-stops _ (declines-with _ path [] n first some other) (λ z. some (first ∙ z))
+
+  pub curve-repeats : (p : ℕ) → firstCause (inputCauses file path) ≡ 13 → RepeatedAt path p → CurveDone (record { number = 13; values = p ∷ [] }) values marks true
+  unfolding curveCauses
+  curve-repeats p e r =
+      let first = joined-input file path _ (λ z. omega arith) ∙ e in
+      curve-stops _ (repeats-with _ path [] p first r) (λ z. omega arith)
+
+  -- values under T + 1, or marks under T
+  pub curve-short : firstCause (inputCauses file path) ≡ 0 → (short (length path + 1) values || short (length path) marks) ≡ true
+      → CurveDone (record { number = 16; values = [] }) values marks true
+  unfolding curveCauses
+  curve-short e s =
+      let first = sym (joined-holds file path _ e s) in
+      curve-stops _ (declines-with _ path [] 16 first (λ z. omega arith) (λ z. omega arith)) (λ z. omega arith)
+
+  pub curve-writes : (v w : List ℕ) → firstCause (inputCauses file path) ≡ 0 → (short (length path + 1) values || short (length path) marks) ≡ false
+      → v ≡ curveValues (familyOf file) path ++ drop (length path + 1) values → w ≡ curveMarks (familyOf file) path ++ drop (length path) marks
+      → CurveDone (record { number = 0; values = [] }) v w false
+  unfolding curveCauses curveValues curveMarks
+  curve-writes v w e s ev ew =
+      let F : Family = familyOf file in
+      let first = joined-none file path _ e s in (
+        answers-with _ path [] first,
+        (
+          ev ∙ rw (writes _ first (curveValues F path) values, length-tabulate (length path + 1) (entry F path)),
+          (
+            ew ∙ rw (writes _ first (curveMarks F path) marks, length-tabulate (length path) (λ i. markAt F path (i + 1))),
+            sym (not-fails _ (eq-eqb _ 0 first)),
+          ),
+        ),
+      )
+
+-- The cut.
+
+module _ (file path : List ℕ) (a b : ℕ) where
+  abbrev pub CutDone : Report → Type 0
+  CutDone r = Answers (cutCauses file path a b) path (cutOf (familyOf file) path a b ∷ []) r
+
+  pub cut-declines : (n : ℕ) → n ≡ firstCause (inputCauses file path) → (n ≡ 0 → ⊥) → (n ≡ 13 → ⊥) → CutDone (record { number = n; values = [] })
+  unfolding cutCauses
+  cut-declines n e some other = declines-with _ path _ n (e ∙ sym (joined-input file path _ (λ z. some (e ∙ z)))) some other
+
+  pub cut-repeats : (p : ℕ) → firstCause (inputCauses file path) ≡ 13 → RepeatedAt path p → CutDone (record { number = 13; values = p ∷ [] })
+  unfolding cutCauses
+  cut-repeats p e r = repeats-with _ path _ p (joined-input file path _ (λ z. omega arith) ∙ e) r
+
+  pub cut-no-fraction : firstCause (inputCauses file path) ≡ 0 → cause15 a b ≡ true → CutDone (record { number = 15; values = [] })
+  unfolding cutCauses
+  cut-no-fraction e h = declines-with _ path _ 15 (sym (joined-holds file path _ e h)) (λ z. omega arith) (λ z. omega arith)
+
+  pub cut-found : (t : ℕ) → firstCause (inputCauses file path) ≡ 0 → cause15 a b ≡ false → t ≡ cutOf (familyOf file) path a b
+      → CutDone (record { number = 0; values = t ∷ [] })
+  unfolding cutCauses
+  cut-found t e h q = rw q (answers-with _ path _ (joined-none file path _ e h))

@@ -1,0 +1,268 @@
+-- The walk along a path: the counts of the regions, the marks and the entries after each step.
+use Prim.Native.Nat.{ℕ, zero, suc, _+_, _-_, _*_, _<_, _≤_}
+use mathlib.Core.Bool.{Bool, true, false, not, cond, _&&_}
+use mathlib.Core.List.{List, [], _∷_, _++_}
+use mathlib.Core.Logic.{_⊎_, ⊎-elim}
+use mathlib.Core.Path.{_≡_, refl, sym, ap, subst, _∙_}
+use native.Mathlib.Nat.{mul-le-mul}
+use native.Mathlib.Numerals.{add-one}
+use native.Mathlib.Omega.{arith}
+use lib.ListN.{length, getD, take, drop, set}
+use lib.Seq.{take-suc, getD-take, drop-cons, set-at, append-snoc, length-take-le, drop-set-lt}
+use lib.Dec.{leb}
+use borrow.Author.Tests.{leb-true, le-leb, eq-eqb, ne-eqb}
+use Rattle.reader.specs.Lists.{tabulate}
+use Rattle.reader.specs.Family.{Family, regionCount, region, leafOf}
+use Rattle.reader.specs.WellFormed.{WellFormed}
+use Rattle.reader.proofs.Below.{some-at, found}
+use Rattle.reader.proofs.Lists.{length-tabulate}
+use Rattle.reader.proofs.Walk.{FirstReaching, leaf-found}
+use Rattle.bounds.specs.Ranges.{Range, Peptides, rangeOf, rangesOf, has, card, count}
+use Rattle.bounds.specs.Curves.{among, entry, markAt, largestUpTo}
+use Rattle.bounds.specs.Paths.{IsPath}
+use Rattle.bounds.specs.Walks.{holdsLeaf, crowded, Stepped}
+use Rattle.bounds.proofs.Members.{test, clash, refuted, both-ways, and-l, and-r, and-both, bit, bit-mono, le-or-lt, In, place}
+use Rattle.bounds.proofs.Counting.{none, card-none, adding, count-none, count-adding, count-adding-other}
+use Rattle.bounds.proofs.Nesting.{has-facts, has-holds}
+use Rattle.bounds.proofs.Greedy.{blocked, blocked-facts, blocked-holds, mark, among-facts, greedy, greedy-snoc, greedy-new}
+use Rattle.bounds.proofs.Paths.{path-bound, entry-step}
+use Rattle.bounds.proofs.Family.{upTo-mono, noRange, ranges-length, range-at, range-in, family-laminar}
+use Rattle.bounds.proofs.Holding.{full, holds-facts, from-holds}
+
+-- The ranges of a family, by the numbers of its regions.
+
+abbrev pub rangeAt : Family → ℕ → Range
+rangeAt F k = rangeOf F (region F k)
+
+pub record Numbered (F : Family) (r : Range) : Type 0 where
+  pub at : ℕ
+  pub few : at < regionCount F
+  pub is : r ≡ rangeAt F at
+
+pub range-numbered : (F : Family) (r : Range) → In r (rangesOf F) → Numbered F r
+range-numbered F r i =
+    let p = place (noRange F) (rangesOf F) r i in
+    record { at = p .at; few = omega (arith, p .inRange, ranges-length F); is = p .there ∙ range-at F (p .at) }
+
+module _ {F : Family} (w : WellFormed F) where
+  -- A region has a peptide exactly if it holds the peptide's leaf.
+  pub has-leaf : (p k : ℕ) → 1 ≤ p → p ≤ F .peptides → k < regionCount F → has (rangeAt F k) p ≡ holdsLeaf F (leafOf F p) k
+  unfolding rangeOf
+  has-leaf p k some most h = both-ways (has (rangeAt F k) p) (holdsLeaf F (leafOf F p) k) there back
+    where
+      leaf : FirstReaching F p (leafOf F p)
+      leaf = leaf-found F p some (omega (arith, w .lengths-sum))
+
+      there : has (rangeAt F k) p ≡ true → holdsLeaf F (leafOf F p) k ≡ true
+      there e =
+          let f = has-facts (rangeAt F k) p e in
+          from-holds F (leafOf F p) k
+          (⊎-elim (λ a. a) (λ b. absurd (omega (arith, f, leaf .reaches, upTo-mono F (leafOf F p) (region F k .first - 1) (omega arith)))) (le-or-lt (region F k .first) (leafOf F p)))
+          (⊎-elim (λ a. a) (λ b. absurd (omega (arith, f, leaf .first (region F k .last) b))) (le-or-lt (leafOf F p) (region F k .last)))
+
+      back : holdsLeaf F (leafOf F p) k ≡ true → has (rangeAt F k) p ≡ true
+      back e =
+          let f = holds-facts F (leafOf F p) k e in
+          has-holds
+          (record {
+            above = leaf .first (region F k .first - 1) (omega (arith, f .0, w .ordered .first-some k h));
+            upto = omega (arith, leaf .reaches, upTo-mono F (leafOf F p) (region F k .last) (f .1));
+          })
+
+-- The counts of the regions.
+
+-- the list has the count of G in each region
+abbrev pub Counts : Family → Peptides → List ℕ → Type 0
+Counts F G C = (k : ℕ) → k < regionCount F → getD C k 0 ≡ count (F .peptides) G (rangeAt F k)
+
+module _ {F : Family} (w : WellFormed F) (G : Peptides) (C : List ℕ) (counts : Counts F G C) (p : ℕ) (some : 1 ≤ p) (most : p ≤ F .peptides) where
+  -- a peptide may not be marked exactly if a region that holds its leaf is crowded
+  pub crowded-blocked : crowded F C (leafOf F p) ≡ blocked (F .peptides) (rangesOf F) G p
+  unfolding crowded rangeOf
+  crowded-blocked = both-ways (crowded F C (leafOf F p)) (blocked (F .peptides) (rangesOf F) G p) there back
+    where
+      there : crowded F C (leafOf F p) ≡ true → blocked (F .peptides) (rangesOf F) G p ≡ true
+      there e =
+          let f = found (full F C (leafOf F p)) (regionCount F) e in
+          let k : ℕ = f .0 in
+          let holds = and-l (holdsLeaf F (leafOf F p) k) (leb (region F k .z) (getD C k 0)) (f .2) in
+          let filled = leb-true (region F k .z) (getD C k 0) (and-r (holdsLeaf F (leafOf F p) k) (leb (region F k .z) (getD C k 0)) (f .2)) in
+          blocked-holds (F .peptides) (rangesOf F) G p
+          (record { by = rangeAt F k; member = range-in F k (f .1); holds = has-leaf w p k some most (f .1) ∙ holds; filled = omega (arith, counts k (f .1)) })
+
+      back : blocked (F .peptides) (rangesOf F) G p ≡ true → crowded F C (leafOf F p) ≡ true
+      back e =
+          let s = blocked-facts (F .peptides) (rangesOf F) G p e in
+          let n = range-numbered F (s .by) (s .member) in
+          let k : ℕ = n .at in
+          let holds : has (rangeAt F k) p ≡ true = rw (n .is) at (s .holds) in
+          let filled : region F k .z ≤ count (F .peptides) G (rangeAt F k) = rw (n .is) at (s .filled) in
+          some-at (full F C (leafOf F p)) (regionCount F) k (n .few)
+          (and-both (holdsLeaf F (leafOf F p) k) (leb (region F k .z) (getD C k 0)) (sym (has-leaf w p k some most (n .few)) ∙ holds)
+          (le-leb (region F k .z) (getD C k 0) (omega (arith, counts k (n .few)))))
+
+  -- the counts after the step
+  pub counts-stay : (D : List ℕ) → Stepped F C p D 0 → Counts F G D
+  counts-stay D s k h = s .counted k h ∙ (⊎-elim (λ t. rw t (omega (arith, counts k h))) (λ f. rw f (omega (arith, counts k h))) (test (holdsLeaf F (leafOf F p) k)))
+
+  pub counts-more : (D : List ℕ) → G p ≡ false → Stepped F C p D 1 → Counts F (adding p G) D
+  counts-more D fresh s k h =
+      let old = counts k h in
+      let leaf = has-leaf w p k some most h in
+      s .counted k h
+      ∙ ⊎-elim
+      (λ t. rw t (omega (arith, count-adding (F .peptides) p G (rangeAt F k) some most fresh (leaf ∙ t))))
+      (λ f. rw f (omega (arith, count-adding-other (F .peptides) p G (rangeAt F k) (leaf ∙ f))))
+      (test (holdsLeaf F (leafOf F p) k))
+
+-- a count is at most m
+card-most : (m : ℕ) (X : Peptides) → card m X ≤ m
+unfolding card
+card-most zero X = omega arith
+card-most (suc m) X = omega (arith, card-most m X, bit-mono (X (suc m)) true (λ t. refl))
+
+pub counts-most : (F : Family) (G : Peptides) (C : List ℕ) → WellFormed F → Counts F G C → (k : ℕ) → k < regionCount F → getD C k 0 < 65535
+unfolding count
+counts-most F G C w counts k h = omega (arith, counts k h, card-most (F .peptides) (λ p. has (rangeAt F k) p && G p), w .peptides-most)
+
+-- A path of different peptides.
+
+module _ {F : Family} {path : List ℕ} (well : WellFormed F) (is : IsPath (F .peptides) path) where
+  -- the peptides marked among the first t
+  abbrev pub markedSet : ℕ → Peptides
+  markedSet t = greedy (F .peptides) (rangesOf F) none (take t path)
+
+  -- what stands at place t stands nowhere before it
+  not-before : (t : ℕ) → t < length path → In (getD path t 0) (take t path) → ⊥
+  not-before t h i =
+      let q = place 0 (take t path) (getD path t 0) i in
+      let l : q .at < t = omega (arith, q .inRange, length-take-le t path (omega arith)) in
+      is .differ (q .at) t l h (sym (q .there ∙ getD-take t path (q .at) 0 l))
+
+  not-among : (t : ℕ) → t < length path → among (take t path) (getD path t 0) ≡ false
+  not-among t h = refuted (among (take t path) (getD path t 0)) (λ e. not-before t h (among-facts (take t path) (getD path t 0) e))
+
+  not-marked : (t : ℕ) → t < length path → markedSet t (getD path t 0) ≡ false
+  not-marked t h =
+      refuted (markedSet t (getD path t 0))
+      (λ e. ⊎-elim (λ i. not-before t h i) (λ n. clash n refl) (greedy-new (F .peptides) (rangesOf F) none (take t path) (getD path t 0) e))
+
+  -- the set after one more place
+  marked-next : (t : ℕ) → t < length path → markedSet (suc t) ≡ mark (F .peptides) (rangesOf F) (markedSet t) (getD path t 0)
+  marked-next t h = ap (greedy (F .peptides) (rangesOf F) none) (take-suc path t 0 h) ∙ greedy-snoc (F .peptides) (rangesOf F) none (take t path) (getD path t 0)
+
+  -- a region that holds the next peptide has as many marked as its z
+  abbrev pub stops : ℕ → Bool
+  stops t = blocked (F .peptides) (rangesOf F) (markedSet t) (getD path t 0)
+
+  pub marked-stays : (t : ℕ) → t < length path → stops t ≡ true → markedSet (suc t) ≡ markedSet t
+  unfolding mark
+  marked-stays t h e = marked-next t h ∙ rw e
+
+  pub marked-grows : (t : ℕ) → t < length path → stops t ≡ false → markedSet (suc t) ≡ adding (getD path t 0) (markedSet t)
+  unfolding mark
+  marked-grows t h e = marked-next t h ∙ rw e
+
+  -- entry t + 1 is entry t, or one more
+  pub entry-next : (t : ℕ) → t < length path → entry F path (suc t) ≡ entry F path t + bit (not (stops t))
+  unfolding entry
+  entry-next t h = entry-step (family-laminar well) path t h (is .some t h) (is .most t h) (not-among t h)
+
+  pub mark-is : (t : ℕ) → t < length path → markAt F path (t + 1) ≡ bit (not (stops t))
+  unfolding markAt
+  mark-is t h =
+      let e : entry F path (t + 1) ≡ entry F path t + bit (not (stops t)) = rw add-one (entry-next t h) in
+      let back : t + 1 - 1 ≡ t = omega arith in
+      ⊎-elim
+      (λ s.
+      rw (back, ne-eqb (entry F path (t + 1)) (entry F path t + 1) (λ q. omega (arith, rw s at e)), s))
+      (λ s.
+      rw (back, eq-eqb (entry F path (t + 1)) (entry F path t + 1) (omega (arith, rw s at e)), s))
+      (test (stops t))
+
+  pub entry-start : entry F path 0 ≡ 0
+  unfolding entry greedy
+  entry-start = sym (path-bound (family-laminar well) []) ∙ card-none (F .peptides) none (λ p l u. refl)
+
+  -- One step: the mark and the entry are right, and the counts are those of the set after it.
+  pub record Next (t : ℕ) (D : List ℕ) (marked : ℕ) : Type 0 where
+    pub small : marked ≤ 1
+    pub entered : entry F path (t + 1) ≡ entry F path t + marked
+    pub right : marked ≡ markAt F path (t + 1)
+    pub counts : Counts F (markedSet (t + 1)) D
+
+  module _ (t : ℕ) (h : t < length path) (C D : List ℕ) (marked : ℕ) (counts : Counts F (markedSet t) C) (s : Stepped F C (getD path t 0) D marked) where
+    marked-bit : marked ≡ bit (not (stops t))
+    marked-bit = s .marked ∙ rw (crowded-blocked well (markedSet t) C counts (getD path t 0) (is .some t h) (is .most t h)) (flip (stops t))
+      where
+        flip : (b : Bool) → cond b 0 1 ≡ bit (not b)
+        flip true = refl
+        flip false = refl
+
+    counts-next : Counts F (markedSet (suc t)) D
+    counts-next =
+        ⊎-elim
+        (λ e.
+        rw (marked-stays t h e)
+        (counts-stay well (markedSet t) C counts (getD path t 0) (is .some t h) (is .most t h) D (subst (Stepped F C (getD path t 0) D) (marked-bit ∙ rw e) s)))
+        (λ e.
+        rw (marked-grows t h e)
+        (counts-more well (markedSet t) C counts (getD path t 0) (is .some t h) (is .most t h) D (not-marked t h) (subst (Stepped F C (getD path t 0) D) (marked-bit ∙ rw e) s)))
+        (test (stops t))
+
+    pub next : Next t D marked
+    next =
+        record {
+          small = ⊎-elim (λ e. omega (arith, marked-bit ∙ ap (λ b. bit (not b)) e)) (λ e. omega (arith, marked-bit ∙ ap (λ b. bit (not b)) e)) (test (stops t));
+          entered = rw add-one (omega (arith, entry-next t h, marked-bit));
+          right = marked-bit ∙ sym (mark-is t h);
+          counts = rw add-one counts-next;
+        }
+
+  -- no peptide is marked at the start
+  pub counts-start : (C : List ℕ) → ((k : ℕ) → k < regionCount F → getD C k 0 ≡ 0) → Counts F (markedSet 0) C
+  unfolding greedy
+  counts-start C zeros k h = zeros k h ∙ sym (count-none (F .peptides) (rangeAt F k))
+
+-- Lists that are written from the start.
+
+tabulate-more : (n : ℕ) (f : ℕ → ℕ) → tabulate (suc n) f ≡ tabulate n f ++ (f n ∷ [])
+unfolding tabulate
+tabulate-more zero f = refl
+tabulate-more (suc n) f = ap (λ (l : List ℕ). f 0 ∷ l) (tabulate-more n (λ i. f (suc i)))
+
+pub write-more : (f : ℕ → ℕ) (xs : List ℕ) (n v : ℕ) → n < length xs → v ≡ f n
+    → set (tabulate n f ++ drop n xs) n v ≡ tabulate (n + 1) f ++ drop (n + 1) xs
+write-more f xs n v h e =
+    rw (e, drop-cons xs n 0 h, set-at (tabulate n f) (getD xs n 0) (drop (suc n) xs) (f n) n (length-tabulate n f), add-one n, tabulate-more n f)
+    (sym (append-snoc (tabulate n f) (f n) (drop (suc n) xs)))
+
+pub write-none : (f : ℕ → ℕ) (xs : List ℕ) → xs ≡ tabulate 0 f ++ drop 0 xs
+unfolding tabulate
+write-none f xs = refl
+
+pub write-first : (f : ℕ → ℕ) (xs : List ℕ) (v : ℕ) → 0 < length xs → v ≡ f 0 → set xs 0 v ≡ tabulate (0 + 1) f ++ drop (0 + 1) (set xs 0 v)
+unfolding tabulate
+write-first f xs v h e = rw (drop-set-lt 1 xs 0 v (omega arith)) (write-more f xs 0 v h e)
+
+-- The cut.
+
+-- the largest number up to t that passes
+abbrev pub cutUpTo : Family → List ℕ → ℕ → ℕ → ℕ → ℕ
+cutUpTo F path a b t = largestUpTo t (λ t. leb (entry F path t * b) (a * t))
+
+pub cut-start : (F : Family) (path : List ℕ) (a b : ℕ) → 0 ≡ cutUpTo F path a b 0
+unfolding largestUpTo
+cut-start F path a b = refl
+
+pub cut-next : (F : Family) (path : List ℕ) (a b t e cut r : ℕ) → e ≡ entry F path (t + 1) → cut ≡ cutUpTo F path a b t
+    → r ≡ cond (leb (e * b) (a * (t + 1))) (t + 1) cut → r ≡ cutUpTo F path a b (t + 1)
+unfolding largestUpTo
+cut-next F path a b t e cut r entered before h = h ∙ rw (entered, before, add-one)
+
+-- a product of two 16-bit numbers fits 32 bits
+pub product-fits : (a b : ℕ) → a < 65536 → b < 65536 → a * b < 4294967296
+product-fits a b ha hb =
+    let x : a ≤ 65535 = omega arith in
+    let y : b ≤ 65535 = omega arith in
+    omega (arith, mul-le-mul x y)

@@ -1,0 +1,156 @@
+-- The walk has come to place t: the entries up to t and the marks before it are written, and the counts are those of the peptides marked.
+use Prim.Native.Nat.{ℕ, _+_, _-_, _≤_}
+use native.Mathlib.Omega.{arith}
+use mathlib.Core.List.{List, _++_}
+use mathlib.Core.Path.{_≡_, refl, sym, ap, _∙_}
+use lib.ListN.{length, take, drop, set, length-set, replicate, getD-replicate}
+use lib.Seq.{drop-set-lt}
+use denote.Ref.{now}
+use Rattle.reader.specs.Lists.{tabulate}
+use Rattle.reader.specs.Family.{familyOf}
+use Rattle.bounds.specs.Ranges.{rangesOf}
+use Rattle.bounds.specs.Curves.{entry, curveValues, markAt, curveMarks}
+use Rattle.bounds.proofs.Counting.{none}
+use Rattle.bounds.proofs.Greedy.{greedy}
+use Rattle.bounds.proofs.Walking.{Counts, counts-start, counts-most, entry-start, Next, next, write-none, write-first, write-more}
+use borrow.Author.Needs.{needs}
+use Rattle.bounds.proofs.walk.write_curve.Statement.{statement}
+use Rattle.bounds.proofs.walk.write_curve.Tie as tie
+
+abbrev Inv-loop : tie.InvT-loop
+Inv-loop file parents path values₀ marks₀ counts₀ entry₀ t₀ values marks counts e t =
+    (t ≤ length path)
+    × (length values ≡ length values₀)
+    × (length marks ≡ length marks₀)
+    × (length counts ≡ 8191)
+    × (e ≤ t)
+    × (e ≡ entry (familyOf file) path t)
+    × (values ≡ tabulate (t + 1) (entry (familyOf file) path) ++ drop (t + 1) values₀)
+    × (marks ≡ tabulate t (λ i. markAt (familyOf file) path (i + 1)) ++ drop t marks₀)
+    × Counts (familyOf file) (greedy (familyOf file .peptides) (rangesOf (familyOf file)) none (take t path)) counts
+
+abbrev μ-loop : tie.MeasureT-loop
+μ-loop file parents path values₀ marks₀ counts₀ entry₀ t₀ values marks counts e t = length path - t
+
+stepped : (c : tie.After-mark-next Inv-loop μ-loop) → Next (c .before .before .before .before .before .before .before .before .before .before .pre .0 .well) (c .before .before .before .before .before .before .before .before .before .before .pre .0 .different) (c .before .before .before .before .loop .t) (c .mark-next .last .1 .1 .0) (c .mark-next .result)
+stepped c = next (c .before .before .before .before .before .before .before .before .before .before .pre .0 .well) (c .before .before .before .before .before .before .before .before .before .before .pre .0 .different) (c .before .before .before .before .loop .t) (c .before .before .before .loop-test .taken) (c .before .before .before .before .loop .counts) _ _ (c .before .before .before .before .loop .inv .8) (c .mark-next .ensures)
+
+slice-write-values : tie.Need-slice-write-values Inv-loop μ-loop
+slice-write-values c = omega (arith, c .before .before .before .before .before .pre .1 .0)
+
+loop-holds : tie.Need-loop-holds Inv-loop μ-loop
+loop-holds c =
+    let walk = c .before .before .before .before .before .pre .0 in
+    let F = familyOf (now (c .before .before .before .before .before .args .file)) in
+    let path = now (c .before .before .before .before .before .args .path) in
+    let start = entry-start (walk .well) (walk .different) in (
+      omega arith,
+      refl,
+      refl,
+      search needs,
+      omega arith,
+      sym start,
+      write-first (entry F path) (now (c .before .before .before .before .before .args .values)) 0 (omega (arith, c .before .before .before .before .before .pre .1 .0)) (sym start),
+      write-none (λ i. markAt F path (i + 1)) (now (c .before .before .before .before .before .args .marks)),
+      counts-start (walk .well) (walk .different) (replicate 8191 0) (λ k l. getD-replicate 8191 k 0 0 (omega (arith, walk .nested .few))),
+    )
+
+slice-aggregate-mark-next : tie.Need-slice-aggregate-mark-next Inv-loop μ-loop
+slice-aggregate-mark-next c = sym (c .before .before .loop .inv .3)
+
+mul-t11 : tie.Need-mul-t11 Inv-loop μ-loop
+mul-t11 c = search needs
+
+shared-slice-read-t16 : tie.Need-shared-slice-read-t16 Inv-loop μ-loop
+shared-slice-read-t16 c = search needs
+
+mark-next-requires : tie.Need-mark-next-requires Inv-loop μ-loop
+mark-next-requires c κs =
+    let walk = c .before .before .before .before .before .before .before .before .before .pre .0 in
+    let inv = c .before .before .before .loop .inv in
+    (walk .nested, (omega (arith, walk .nested .few, inv .3), counts-most _ _ (c .before .before .before .loop .counts) (walk .well) (inv .8)))
+
+next-entry-requires : tie.Need-next-entry-requires Inv-loop μ-loop
+next-entry-requires c κs =
+    let walk = c .before .before .before .before .before .before .before .before .before .before .before .pre .0 in
+    (omega (arith, walk .short, walk .well .peptides-most, c .before .before .before .before .before .loop .inv .4, c .before .before .before .before .loop-test .taken), stepped (c .before) .small)
+
+add-values : tie.Need-add-values Inv-loop μ-loop
+add-values c = search needs
+
+mul-values : tie.Need-mul-values Inv-loop μ-loop
+mul-values c = search needs
+
+slice-write-values-2 : tie.Need-slice-write-values-2 Inv-loop μ-loop
+slice-write-values-2 c = omega (arith, c .before .before .before .before .before .before .before .before .before .before .before .before .pre .1 .0, simp length-set at (c .before .before .before .before .before .before .loop .inv .1), c .before .before .before .before .before .loop-test .taken)
+
+slice-write-marks : tie.Need-slice-write-marks Inv-loop μ-loop
+slice-write-marks c = search needs
+
+add-t : tie.Need-add-t Inv-loop μ-loop
+add-t c = search needs
+
+loop-less : tie.Need-loop-less Inv-loop μ-loop
+loop-less c = search needs
+
+loop-again : tie.Need-loop-again Inv-loop μ-loop
+loop-again c =
+    let inv = c .before .before .before .before .before .before .loop .inv in
+    let t = c .before .before .before .before .before .before .loop .t in
+    let here = c .before .before .before .before .before .loop-test .taken in
+    let F = familyOf (now (c .before .before .before .before .before .before .before .before .before .before .before .before .args .file)) in
+    let path = now (c .before .before .before .before .before .before .before .before .before .before .before .before .args .path) in
+    let values = set (now (c .before .before .before .before .before .before .before .before .before .before .before .before .args .values)) 0 0 in
+    let marks = now (c .before .before .before .before .before .before .before .before .before .before .before .before .args .marks) in
+    let n = stepped (c .before .before) in
+    let e : c .next-entry .result ≡ entry F path (t + 1) = omega (arith, c .next-entry .ensures, inv .5, n .entered) in (
+      omega arith,
+      simp length-set (simp length-set at (inv .1)),
+      simp length-set (inv .2),
+      c .before .before .mark-next .ensures .same ∙ inv .3,
+      omega (arith, c .next-entry .ensures, n .small, inv .4),
+      e,
+      ap (λ (l : List ℕ). set l (t + 1) (c .next-entry .result)) (inv .6) ∙ write-more (entry F path) values (t + 1) (c .next-entry .result) (simp length-set (omega (arith, c .before .before .before .before .before .before .before .before .before .before .before .before .pre .1 .0))) e,
+      ap (λ (l : List ℕ). set l t (c .before .before .mark-next .result)) (inv .7) ∙ write-more (λ i. markAt F path (i + 1)) marks t (c .before .before .mark-next .result) (omega (arith, c .before .before .before .before .before .before .before .before .before .before .before .before .pre .1 .1)) (n .right),
+      n .counts,
+    )
+
+same-length : tie.Need-same-length Inv-loop μ-loop
+same-length c = simp length-set at (c .before .loop .inv .1)
+
+same-length-2 : tie.Need-same-length-2 Inv-loop μ-loop
+same-length-2 c = search needs
+
+returns : tie.Need-returns Inv-loop μ-loop
+unfolding curveValues curveMarks
+returns c =
+    let inv = c .before .loop .inv in
+    let path = now (c .before .before .before .before .before .before .before .args .path) in
+    let end : c .before .loop .t ≡ length path = omega arith in (
+      (rw end at (inv .6)) ∙ rw (drop-set-lt (length path + 1) (now (c .before .before .before .before .before .before .before .args .values)) 0 0 (omega arith)),
+      rw end at (inv .7),
+    )
+
+pub write-curve-spec : {M : Type 1} → statement M
+write-curve-spec =
+    tie.close
+    (tie.spec
+    Inv-loop
+    μ-loop
+    slice-write-values
+    loop-holds
+    slice-aggregate-mark-next
+    mul-t11
+    shared-slice-read-t16
+    mark-next-requires
+    next-entry-requires
+    add-values
+    mul-values
+    slice-write-values-2
+    slice-write-marks
+    add-t
+    loop-less
+    loop-again
+    same-length
+    same-length-2
+    returns)

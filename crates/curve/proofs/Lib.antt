@@ -1,0 +1,4 @@
+-- The laws that the proofs of the curve program cite.
+pub mod Appending
+pub mod Decoding
+pub mod Printing

@@ -1,0 +1,4 @@
+-- The definitions that the promises of the curve program are written with.
+pub mod Text
+pub mod Appends
+pub mod Program

@@ -1,0 +1,103 @@
+-- The parents as defined are the regions just around, so a lent list with the parents of an accepted file has them.
+use Prim.Native.Nat.{ℕ, zero, suc, _-_, _<_, _≤_}
+use native.Mathlib.Nat.{eq-or-lt-of-le}
+use native.Mathlib.Omega.{arith}
+use mathlib.Core.List.{List, _++_}
+use mathlib.Core.Path.{_≡_, sym, ap, subst, _∙_}
+use mathlib.Core.Logic.{⊎-elim}
+use lib.ListN.{length, getD, drop, List·getD-append}
+use lib.Dec.{leb}
+use borrow.Author.Tests.{leb-true, leb-false, le-leb}
+use Rattle.reader.specs.Family.{Family, familyOf, regionCount, region}
+use Rattle.reader.specs.Nesting.{parent, parents}
+use Rattle.reader.specs.Causes.{Accepted}
+use Rattle.reader.specs.Calls.{withParents}
+use Rattle.reader.specs.WellFormed.{Ordered, NestedBelow, IsParent, ParentsBelow}
+use Rattle.reader.proofs.Bools.{test}
+use Rattle.reader.proofs.Below.{below-suc}
+use Rattle.reader.proofs.Lists.{length-tabulate, getD-tabulate}
+use Rattle.reader.proofs.Climbing.{parent-is, nested-if-clear}
+use Rattle.reader.proofs.Accepting.{ordered-if-clear, accepted-family}
+
+-- c is the number of the last of the first n regions that ends with the k-th one or later
+record Reaching (F : Family) (k n c : ℕ) : Type 0 where
+  most : c ≤ n
+  ends : (j : ℕ) → c ≡ suc j → region F k .last ≤ region F j .last
+  later : (i : ℕ) → c ≤ i → i < n → region F i .last < region F k .last
+
+reaching : (F : Family) (k n : ℕ) → (c : ℕ) × Reaching F k n c
+reaching F k zero = (zero, record { most = omega arith; ends = λ j e. absurd (omega arith); later = λ i l u. absurd (omega arith) })
+reaching F k (suc n) =
+    ⊎-elim
+    (λ t. (
+      suc n,
+      record {
+        most = omega arith;
+        ends = λ j e. subst (λ (i : ℕ). region F k .last ≤ region F i .last) (omega arith) (leb-true (region F k .last) (region F n .last) t);
+        later = λ i l u. absurd (omega arith);
+      },
+    ))
+    (λ f.
+    let below = reaching F k n in
+    let r = below .1 in (
+      below .0,
+      record {
+        most = omega (arith, r .most);
+        ends = r .ends;
+        later = λ i l u. ⊎-elim (λ e. rw e (leb-false (region F k .last) (region F n .last) f)) (λ d. r .later i l d) (below-suc u);
+      },
+    ))
+    (test (leb (region F k .last) (region F n .last)))
+
+module _ (F : Family) (o : Ordered F) (nested : NestedBelow F (regionCount F)) where
+  -- the last region before the k-th one that ends with it or later is the one just around it
+  reaching-parent : (k c : ℕ) → k < regionCount F → Reaching F k k c → IsParent F k c
+  reaching-parent k c lk r = record { earlier = r .most; around = r .ends; innermost = λ i l h. (inside i l h, ends i l h) }
+    where
+      inside : (i : ℕ) → i < k → region F k .last ≤ region F i .last → i < c
+      inside i l h =
+          ⊎-elim
+          (λ t. absurd (omega (arith, r .later i (leb-true c i t) l)))
+          (λ f. leb-false c i f)
+          (test (leb c i))
+
+      ends : (i : ℕ) → i < k → region F k .last ≤ region F i .last → region F (c - 1) .last ≤ region F i .last
+      ends i l h =
+          let before = inside i l h in
+          let up : i ≤ c - 1 = omega arith in
+          let lc : c - 1 < k = omega (arith, r .most) in
+          ⊎-elim
+          (λ e. rw e (omega arith))
+          (λ d.
+          ⊎-elim
+          (λ a. absurd (omega (arith, o .rising (c - 1) k lc lk, o .first-last k lk)))
+          (λ b. b)
+          (nested i (c - 1) d (omega arith)))
+          (eq-or-lt-of-le up)
+
+  -- every region has its parent in the list of parents
+  pub parent-known : (k : ℕ) → k < regionCount F → IsParent F k (parent F k)
+  parent-known k lk =
+      let r = reaching F k k in
+      let p = reaching-parent k (r .0) lk (r .1) in
+      subst (IsParent F k) (sym (parent-is F o nested k (r .0) lk p)) p
+
+  pub parents-known : ParentsBelow F (parents F) (regionCount F)
+  unfolding parents
+  parents-known k lk = subst (IsParent F k) (sym (getD-tabulate (regionCount F) (parent F) 0 k lk)) (parent-known k lk)
+
+module _ (s : List ℕ) (accepted : Accepted s) (out : List ℕ) (room : regionCount (familyOf s) ≤ length out) where
+  written-as : withParents s out ≡ parents (familyOf s) ++ drop (regionCount (familyOf s)) out
+  unfolding withParents
+  written-as = rw (accepted, le-leb (regionCount (familyOf s)) (length out) room)
+
+  -- a lent list with room has the parents of an accepted file
+  pub parents-given : ParentsBelow (familyOf s) (withParents s out) (regionCount (familyOf s))
+  unfolding parents
+  parents-given k lk =
+      let F : Family = familyOf s in
+      let clear = accepted-family s accepted in
+      let o = ordered-if-clear F (clear .no7) (clear .no8) in
+      subst (IsParent F k)
+      (sym (ap (λ (l : List ℕ). getD l k 0) written-as ∙ List·getD-append (parents F) (drop (regionCount F) out) 0 k (omega (arith, length-tabulate (regionCount F) (parent F)))))
+      (parents-known F o (nested-if-clear F o (clear .no9)) k lk)
