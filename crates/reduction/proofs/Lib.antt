@@ -39,8 +39,12 @@ pub mod Accepted
 pub mod NumberRows
 pub mod LeafEnds
 pub mod WholeFile
+-- the calls
+pub mod LiveSelection
+pub mod ReduceCalls
 -- the one form
 pub mod Curves
 pub mod OneForm
 pub mod OneFile
+pub mod DemandThree
 pub mod Examples

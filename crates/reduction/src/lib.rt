@@ -82,7 +82,7 @@ fn reduce_accepted(file: &[u8], parents: &[u16], out: &mut [u8]) -> Size
     let mut from = [0u16; 8191];
     let mut to = [0u16; 8191];
     let mut zs = [0u16; 8191];
-    let n = list_reduced(file, parents, &live, &firsts, &lasts, &totals, &mut from, &mut to, &mut zs);
+    let n = list_reduced(file, parents, &totals, &live, &firsts, &lasts, &mut from, &mut to, &mut zs);
     write_reduced(file, n, &from, &to, &zs, out)
 }
 
@@ -108,8 +108,8 @@ pub fn reduce(file: &[u8], out: &mut [u8]) -> ReducedFile
 
 // Whether the reductions of two accepted files are equal.
 fn same_reduced(first: &[u8], first_parents: &[u16], second: &[u8], second_parents: &[u16]) -> bool
-    requires { ⌜ Parented (now first) (now first_parents) ⌝ }
-    requires { ⌜ Parented (now second) (now second_parents) ⌝ }
+    requires { ⌜ Parented (now first) (now «first_parents») ⌝ }
+    requires { ⌜ Parented (now second) (now «second_parents») ⌝ }
     ensures { λ r. ⌜ r ≡ sameList (reducedFile (now (first .entry))) (reducedFile (now (second .entry))) ⌝ }
 {
     let mut one = [0u8; 57354];

@@ -1,37 +1,39 @@
+-- What the check of the reader answers.
+use mathlib.Core.Path.{sym, ap, _∙_}
+use denote.Ref.{now}
+use Rattle.reader.specs.Calls.{report}
+use Rattle.reader.proofs.Accepting.{learns-accepted, learns-refused}
+use Rattle.reduction.proofs.ReduceCalls.{judged-accepted, judged-refused}
 use borrow.Author.Needs.{needs}
 use Rattle.reduction.proofs.file_cause.Statement.{statement}
 use Rattle.reduction.proofs.file_cause.Tie as tie
-use Rattle.reduction.proofs.file_cause.Reads as reads
-use Rattle.reduction.proofs.file_cause.Lts as lts
-use Rattle.reader.proofs.parents.Reads as parents-reads
 
--- src/lib.rt:49:11
 parents-requires : tie.Need-parents-requires
 parents-requires c κs = search needs
 
--- src/lib.rt:54:14
 enum-told : tie.Need-enum-told
 enum-told c = search needs
 
--- src/lib.rt:55:26
 enum-known-number : tie.Need-enum-known-number
 enum-known-number c = search needs
 
--- src/lib.rt:45:1
 same-length : tie.Need-same-length
 same-length c = search needs
 
--- src/lib.rt:45:1
 returns : tie.Need-returns
-returns c = search needs
+returns c =
+    let s = now (c .before .before .before .before .before .before .before .before .args .file) in
+    let a = learns-accepted s _ _ _ (ap report (sym (c .enum-told .given .1)) ∙ c .before .before .before .before .parents .ensures .0) in
+    judged-accepted s (c .before .before .before .before .parents .last .1 .0) (now (c .before .before .before .before .before .before .before .before .args .parents)) (a .accepted) (c .before .before .before .before .before .before .before .before .pre) (c .before .before .before .before .parents .ensures .1)
 
--- src/lib.rt:45:1
 same-length-2 : tie.Need-same-length-2
 same-length-2 c = search needs
 
--- src/lib.rt:45:1
 returns-2 : tie.Need-returns-2
-returns-2 c = search needs
+returns-2 c =
+    let s = now (c .before .before .before .before .before .before .before .before .before .args .file) in
+    let r = learns-refused s _ (ap report (sym (c .before .number .given .1)) ∙ c .before .before .before .before .before .parents .ensures .0) in
+    judged-refused s (c .before .before .before .before .before .parents .last .1 .0) _ (r .0) (r .1)
 
 pub file-cause-spec : {M : Type 1} → statement M
 file-cause-spec =

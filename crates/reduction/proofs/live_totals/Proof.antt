@@ -1,42 +1,44 @@
+-- The live bytes are a selection, so the call of `bounds` writes the totals.
+use native.Mathlib.Omega.{arith}
+use Prim.Native.Nat.{_-_}
+use mathlib.Core.Path.{_≡_, sym, ap, _∙_}
+use lib.ListN.{take}
+use denote.Ref.{now}
+use Rattle.reader.specs.Family.{familyOf}
+use Rattle.reader.proofs.Parsed.{peptides-read}
+use Rattle.reduction.proofs.LiveSelection.{live-room, live-part, totals-written}
 use borrow.Author.Needs.{needs}
 use Rattle.reduction.proofs.live_totals.Statement.{statement}
 use Rattle.reduction.proofs.live_totals.Tie as tie
-use Rattle.reduction.proofs.live_totals.Reads as reads
-use Rattle.reduction.proofs.live_totals.Lts as lts
-use Rattle.bounds.proofs.inside_totals.Reads as inside-totals-reads
-use Rattle.reader.proofs.bytes.number_at.Reads as number-at-reads
 
--- src/lib.rt:66:13
 number-at-requires : tie.Need-number-at-requires
 number-at-requires c κs = search needs
 
--- src/lib.rt:66:13
 cast-m : tie.Need-cast-m
 cast-m c = search needs
 
--- src/lib.rt:67:33
 sub-inside-totals : tie.Need-sub-inside-totals
 sub-inside-totals c = search needs
 
--- src/lib.rt:67:33
 part-inside-totals-start : tie.Need-part-inside-totals-start
 part-inside-totals-start c = search needs
 
--- src/lib.rt:67:33
 part-inside-totals-end : tie.Need-part-inside-totals-end
-part-inside-totals-end c = search needs
+part-inside-totals-end c = omega (arith, live-room (familyOf (now (c .before .before .before .before .args .file))) (now (c .before .before .before .before .args .live)) (c .before .before .before .before .pre .1 .0), c .number-at .ensures, peptides-read (now (c .before .before .before .before .args .file)))
 
--- src/lib.rt:67:5
 inside-totals-requires : tie.Need-inside-totals-requires
 inside-totals-requires c κs = search needs
 
--- src/lib.rt:60:1
 same-length : tie.Need-same-length
 same-length c = search needs
 
--- src/lib.rt:60:1
 returns : tie.Need-returns
-returns c = search needs
+returns c =
+    let s = now (c .before .before .before .before .before .before .before .before .before .args .file) in
+    let m = c .before .before .before .before .before .number-at .result in
+    let L = now (c .before .before .before .before .before .before .before .before .before .args .live) in
+    totals-written s (c .before .before .before .before .before .before .before .before .before .pre .0) (now (c .before .before .before .before .before .before .before .before .before .args .totals)) (c .before .before .before .before .before .before .before .before .before .pre .1 .1) (c .before .before .inside-totals .last .1 .1 .0) (take (m - 0) L)
+    (live-part (familyOf s) L (c .before .before .before .before .before .before .before .before .before .pre .1 .0) m (c .before .before .before .before .before .number-at .ensures ∙ sym (peptides-read s))) (c .before .before .inside-totals .ensures .1)
 
 pub live-totals-spec : {M : Type 1} → statement M
 live-totals-spec =

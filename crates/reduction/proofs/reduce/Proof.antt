@@ -1,42 +1,42 @@
+-- The causes of the file, then the room, then the reduced file.
+use mathlib.Core.Path.{_≡_, sym, _∙_}
+use denote.Ref.{now}
+use Rattle.reduction.proofs.ReduceCalls.{reduce-refused, reduce-short, reduce-written}
 use borrow.Author.Needs.{needs}
 use Rattle.reduction.proofs.reduce.Statement.{statement}
 use Rattle.reduction.proofs.reduce.Tie as tie
-use Rattle.reduction.proofs.reduce.Reads as reads
-use Rattle.reduction.proofs.reduce.Lts as lts
-use Rattle.reduction.proofs.file_cause.Reads as file-cause-reads
-use Rattle.reduction.proofs.reduce_accepted.Reads as reduce-accepted-reads
 
--- src/lib.rt:95:34
 slice-aggregate-file-cause : tie.Need-slice-aggregate-file-cause
 slice-aggregate-file-cause c = search needs
 
--- src/lib.rt:95:9
 file-cause-requires : tie.Need-file-cause-requires
 file-cause-requires c κs = search needs
 
--- src/lib.rt:97:9
 returns : tie.Need-returns
-returns c = search needs
+returns c =
+    let r = reduce-refused (now (c .before .before .before .before .before .before .args .file)) (now (c .before .before .before .before .before .before .args .out)) (c .before .before .file-cause .result) (c .before .before .file-cause .ensures .tested) (c .if1 .taken) in
+    (r .answered, r .left)
 
--- src/lib.rt:100:9
 returns-2 : tie.Need-returns-2
-returns-2 c = search needs
+returns-2 c =
+    let r = reduce-short (now (c .before .before .before .before .before .before .before .args .file)) (now (c .before .before .before .before .before .before .before .args .out)) (sym (c .before .before .before .file-cause .ensures .tested) ∙ c .before .if1 .left) (c .if2 .taken) in
+    (r .answered, r .left)
 
--- src/lib.rt:102:38
 slice-aggregate-reduce-accepted : tie.Need-slice-aggregate-reduce-accepted
 slice-aggregate-reduce-accepted c = search needs
 
--- src/lib.rt:102:9
 reduce-accepted-requires : tie.Need-reduce-accepted-requires
-reduce-accepted-requires c κs = search needs
+reduce-accepted-requires c κs = (c .before .before .before .before .before .file-cause .ensures .parented (c .before .before .before .if1 .left), c .before .before .if2 .left)
 
--- src/lib.rt:90:1
 same-length : tie.Need-same-length
 same-length c = search needs
 
--- src/lib.rt:90:1
 returns-3 : tie.Need-returns-3
-returns-3 c = search needs
+returns-3 c =
+    let r =
+    reduce-written (now (c .before .before .before .before .before .before .before .before .before .before .before .before .args .file)) (now (c .before .before .before .before .before .before .before .before .before .before .before .before .args .out)) (sym (c .before .before .before .before .before .before .before .before .file-cause .ensures .tested) ∙ c .before .before .before .before .before .before .if1 .left) (c .before .before .before .before .before .if2 .left)
+    (c .before .before .reduce-accepted .last .1 .1 .0) (c .before .before .reduce-accepted .result .bytes) (c .before .before .reduce-accepted .result .regions) (c .before .before .reduce-accepted .ensures) in
+    (r .answered, r .left)
 
 pub reduce-spec : {M : Type 1} → statement M
 reduce-spec =
