@@ -93,6 +93,9 @@ module _ (s out : List ℕ) where
   unfolding reduceCauses short firstCause
   short-output a = join-clear (fileCauses s) _ (file-numbered s) a
 
+  pub output-suffices : Accepted s → length s ≤ length out → firstCause (reduceCauses s out) ≡ 0
+  output-suffices a h = short-output a ∙ ap (λ (b : Bool). cond b 16 0) (le-ltb (length out) (length s) h)
+
   -- the answer r, with the list new left in the output
   pub record Answered (r : Report) (new : List ℕ) : Type 0 where
     pub answered : r ≡ answer (reduceCauses s out) (reducedCounts s)
@@ -117,7 +120,7 @@ module _ (s out : List ℕ) where
   pub reduce-written : Accepted s → length s ≤ length out → (new : List ℕ) (l k : ℕ) → Wrote s out new l k → Answered (reportReduced (made.Written l k)) new
   unfolding reportReduced reducedCounts
   reduce-written a h new l k w =
-      let none : firstCause (reduceCauses s out) ≡ 0 = short-output a ∙ ap (λ (b : Bool). cond b 16 0) (le-ltb (length out) (length s) h) in
+      let none = output-suffices a h in
       record {
         answered = rw (w .total, w .counted) (sym (answers (reduceCauses s out) none (reducedCounts s)));
         left = w .start ∙ sym (writes (reduceCauses s out) none (reducedFile s) out);
@@ -173,7 +176,7 @@ module _ (first second : List ℕ) where
       (ap (λ (k : ℕ). k + 100) e ∙ sym (second-family a ∙ further-holds (fileCauses second) (λ z. h (e ∙ z))))
       (λ z. omega arith)
 
-  both-accepted : Accepted first → Accepted second → firstCause (compareCauses first second) ≡ 0
+  pub both-accepted : Accepted first → Accepted second → firstCause (compareCauses first second) ≡ 0
   both-accepted a b = second-family a ∙ further-clear (fileCauses second) (file-numbered second) b
 
   pub compare-same : Accepted first → Accepted second → sameList (reducedFile first) (reducedFile second) ≡ true → Compares compared.Same
