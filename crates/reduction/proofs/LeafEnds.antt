@@ -10,7 +10,7 @@ use native.Mathlib.Omega.{arith}
 use lib.ListN.{length, getD, set, replicate, length-append, length-set}
 use lib.Seq.{getD-set-same, getD-set-other}
 use lib.Dec.{eqb}
-use borrow.Author.Tests.{eqb-true, eqb-false, eq-eqb, ne-eqb}
+use borrow.Author.Tests.{eqb-true, eqb-false}
 use Rattle.reader.specs.Lists.{someBelow}
 use Rattle.bounds.specs.Ranges.{Peptides, card}
 use Rattle.bounds.proofs.Members.{test}
@@ -162,7 +162,7 @@ module _ (C A B Z : List ℕ) where
       let down : suc k - 1 ≡ k = omega arith in
       rw (add-one k, down)
 
-  pub region-numbers-length : (k : ℕ) → length (regionNumbers k C A B Z) ≡ 3 * k
+  region-numbers-length : (k : ℕ) → length (regionNumbers k C A B Z) ≡ 3 * k
   unfolding regionNumbers rising
   region-numbers-length zero = refl
   region-numbers-length (suc k) =

@@ -1,13 +1,12 @@
 -- The live peptides as a selection: m bytes, each 0 or 1, which the call for the inside totals takes.
 use Prim.Native.Nat.{ℕ, _+_, _-_, _≤_, _<_}
 use mathlib.Core.Bool.{Bool, true, false, cond}
-use mathlib.Core.List.{List, [], _∷_, _++_}
-use mathlib.Core.Path.{_≡_, sym, ap, _∙_}
+use mathlib.Core.List.{List}
+use mathlib.Core.Path.{_≡_, ap, _∙_}
 use native.Mathlib.Omega.{arith}
 use lib.ListN.{length, getD, take, drop, length-append}
 use lib.Seq.{take-at}
 use borrow.Author.Tests.{le-ltb}
-use Rattle.reader.specs.Lists.{tabulate}
 use Rattle.reader.specs.Family.{Family, familyOf, regionCount}
 use Rattle.reader.specs.Causes.{firstCause, fileCauses, Accepted}
 use Rattle.reader.specs.Calls.{written}
@@ -22,7 +21,7 @@ use Rattle.bounds.proofs.Selecting.{overOne, right-selection}
 use Rattle.reduction.specs.Reduction.{live}
 use Rattle.reduction.specs.Steps.{Begins, liveBytes, Totalled}
 
-pub live-length : (F : Family) → length (liveBytes F) ≡ F .peptides
+live-length : (F : Family) → length (liveBytes F) ≡ F .peptides
 unfolding liveBytes
 live-length F = length-tabulate (F .peptides) _
 

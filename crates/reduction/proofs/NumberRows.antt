@@ -6,7 +6,7 @@ use native.Mathlib.Nat.{add-zero}
 use native.Mathlib.Numerals.{add-one}
 use native.Mathlib.Omega.{arith}
 use lib.ListN.{length, getD, take, set}
-use lib.Seq.{sets, length-sets, length-take-le, take-suc}
+use lib.Seq.{sets, length-take-le, take-suc}
 use Rattle.reader.specs.Bytes.{bytesOf}
 use Rattle.reduction.specs.Writing.{withNumbers}
 
@@ -26,10 +26,6 @@ sets-join l i [] ys j e = ap (λ (k : ℕ). sets l k ys) (e ∙ add-zero i)
 sets-join l i (x ∷ xs) ys j e = sets-join (set l i x) (suc i) xs ys j (omega (arith, e))
 
 module _ (out : List ℕ) (at : ℕ) where
-  pub numbers-length : (ns : List ℕ) → length (withNumbers out at ns) ≡ length out
-  unfolding withNumbers
-  numbers-length ns = length-sets out at (bytesOf ns)
-
   pub numbers-none : withNumbers out at [] ≡ out
   unfolding withNumbers bytesOf
   numbers-none = refl

@@ -1,13 +1,13 @@
 -- What the calls of `reduction` answer and write, from what they find.
 use Prim.Native.Nat.{ℕ, _+_, _-_, _≤_, _<_}
 use mathlib.Core.Bool.{Bool, true, false, cond}
-use mathlib.Core.List.{List, [], _∷_, _++_, map}
+use mathlib.Core.List.{List, [], _∷_, map}
 use mathlib.Core.Path.{_≡_, refl, sym, ap, _∙_}
 use mathlib.Core.Logic.{⊎-elim}
 use native.Mathlib.Omega.{arith}
 use lib.ListN.{length, take, drop, length-append}
 use lib.Seq.{take-at}
-use lib.Dec.{leb, ltb, eqb}
+use lib.Dec.{ltb}
 use borrow.Author.Tests.{le-leb, lt-ltb, le-ltb}
 use Rattle.reader.specs.Lists.{sameList}
 use Rattle.reader.specs.Family.{familyOf, regionCount}
@@ -20,7 +20,7 @@ use Rattle.reader.proofs.Judged.{peptides-counted, leaves-counted, regions-coun
 use Rattle.reader.proofs.Accepting.{accepted-header, few-regions, whole-length, file-numbered}
 use Rattle.bounds.specs.Calls.{short}
 use Rattle.reduction.specs.Reduction.{reducedFile}
-use Rattle.reduction.specs.Steps.{Begins, Parented}
+use Rattle.reduction.specs.Steps.{Begins}
 use Rattle.reduction.specs.declared.ReducedFile.the-variants as made
 use Rattle.reduction.specs.declared.Compared.{Compared}
 use Rattle.reduction.specs.declared.Compared.the-variants as compared

@@ -1,8 +1,8 @@
 -- The numbers written from the list of the reduced ranges make the reduced file.
 use Prim.Native.Nat.{ℕ, zero, suc, _+_, _*_, _-_, _<_, _≤_}
-use mathlib.Core.Bool.{Bool, true, _||_}
+use mathlib.Core.Bool.{Bool, _||_}
 use mathlib.Core.List.{List, [], _∷_, _++_, map, append-assoc}
-use mathlib.Core.Path.{_≡_, refl, sym, ap, ap₂, subst, _∙_}
+use mathlib.Core.Path.{_≡_, refl, sym, ap, ap₂, _∙_}
 use native.Mathlib.Nat.{zero-add}
 use native.Mathlib.Numerals.{add-one}
 use native.Mathlib.Omega.{arith}
@@ -10,7 +10,7 @@ use lib.ListN.{length, getD, take, drop, length-append, length-map, List·getD-a
 use lib.Seq.{sets, sets-eq, take-suc, take-all}
 use lib.Dec.{eqb}
 use Rattle.reader.specs.Lists.{someBelow}
-use Rattle.reader.specs.Bytes.{IsBytes, numberAt, bytesOf}
+use Rattle.reader.specs.Bytes.{IsBytes, bytesOf}
 use Rattle.reader.specs.Family.{Region, Family, leaves, regionCount, familyOf, mark, totalLength, regionFields, fields, fileOf}
 use Rattle.reader.specs.Causes.{Accepted}
 use Rattle.reader.specs.WellFormed.{WellFormed}
@@ -25,7 +25,6 @@ use Rattle.reduction.specs.Writing.{withNumbers, headerNumbers, OnLine, 
 use Rattle.reduction.proofs.Plain.{Plain}
 use Rattle.reduction.proofs.RunOrStretch.{plain, first}
 use Rattle.reduction.proofs.Leaves.{leaves-count}
-use Rattle.reduction.proofs.Counts.{card-most}
 use Rattle.reduction.proofs.Accepted.{reduced-wellformed}
 use Rattle.reduction.proofs.OneFile.{reduced-file-fits}
 use Rattle.reduction.proofs.NumberRows.{bytes-length, bytes-join, sets-join}
@@ -172,7 +171,7 @@ module _ (s : List ℕ) (bytes : IsBytes s) (accepted : Accepted s) (n : ℕ) (A
   unfolding reducedRanges
   is-plain = plain (F .peptides) (rangesOf F)
 
-  pub listed-on-line : OnLine (F .peptides) n A B
+  listed-on-line : OnLine (F .peptides) n A B
   unfolding reducedRanges
   listed-on-line =
       rw (listed .number)
@@ -244,11 +243,11 @@ module _ (s : List ℕ) (bytes : IsBytes s) (accepted : Accepted s) (n : ℕ) (A
       -- the reduced file stands at the start of the output
       pub wrote : (out : List ℕ) (total : ℕ) → length s ≤ length out → total ≡ 16 + 2 * getD C m 0 + 6 * n
           → Wrote s out
-              (withNumbers
-              (withNumbers (sets out 0 (mark ++ bytesOf (headerNumbers m (getD C m 0) n))) 16 (leafLengths m (markedIn E)))
-              (16 + 2 * getD C m 0)
-              (regionNumbers n C A B Z))
-              total n
+          (withNumbers
+          (withNumbers (sets out 0 (mark ++ bytesOf (headerNumbers m (getD C m 0) n))) 16 (leafLengths m (markedIn E)))
+          (16 + 2 * getD C m 0)
+          (regionNumbers n C A B Z))
+          total n
       unfolding reducedFile fileOf
       wrote out total room e =
           let counted : total ≡ totalLength (leaves G) (regionCount G) = omega (arith, leaf-count, regions-there) in
@@ -256,9 +255,9 @@ module _ (s : List ℕ) (bytes : IsBytes s) (accepted : Accepted s) (n : ℕ) (A
           record {
             start =
                 joined out (headerNumbers m (getD C m 0) n) (leafLengths m (markedIn E)) (regionNumbers n C A B Z) (16 + 2 * getD C m 0) refl
-                    (omega (arith, leaf-count, ap length lengths-are))
-                    ∙ ap (λ (l : List ℕ). sets out 0 (mark ++ bytesOf l)) fields-are
-                    ∙ at-start (fileOf G) (omega (arith, file-length G, has-room (length out) room .enough, leaf-count, regions-there));
+                (omega (arith, leaf-count, ap length lengths-are))
+                ∙ ap (λ (l : List ℕ). sets out 0 (mark ++ bytesOf l)) fields-are
+                ∙ at-start (fileOf G) (omega (arith, file-length G, has-room (length out) room .enough, leaf-count, regions-there));
             whole = counted ∙ sym (file-length G);
             total = counted ∙ sym (unfold fields in field-read G 5 14 refl small);
             counted = sym regions-there ∙ sym (unfold fields in field-read G 2 8 refl (omega arith));

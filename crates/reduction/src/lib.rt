@@ -82,7 +82,17 @@ fn reduce_accepted(file: &[u8], parents: &[u16], out: &mut [u8]) -> Size
     let mut from = [0u16; 8191];
     let mut to = [0u16; 8191];
     let mut zs = [0u16; 8191];
-    let n = list_reduced(file, parents, &totals, &live, &firsts, &lasts, &mut from, &mut to, &mut zs);
+    let n = list_reduced(
+        file,
+        parents,
+        &totals,
+        &live,
+        &firsts,
+        &lasts,
+        &mut from,
+        &mut to,
+        &mut zs,
+    );
     write_reduced(file, n, &from, &to, &zs, out)
 }
 

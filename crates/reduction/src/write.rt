@@ -114,7 +114,16 @@ fn write_lengths(m: u16, ends: &[u8], out: &mut [u8])
 }
 
 // Writes the regions: a range begins with the leaf after those that end before it, and ends with the leaf that ends where it does.
-fn write_regions(m: u16, n: u16, from: &[u16], to: &[u16], bounds: &[u16], counts: &[u16], at: usize, out: &mut [u8])
+fn write_regions(
+    m: u16,
+    n: u16,
+    from: &[u16],
+    to: &[u16],
+    bounds: &[u16],
+    counts: &[u16],
+    at: usize,
+    out: &mut [u8],
+)
     requires { ⌜ OnLine m n (now from) (now to) ⌝ }
     requires { ⌜ n ≤ length (now bounds) ⌝ }
     requires { ⌜ 4096 < length (now counts) ⌝ }
@@ -133,7 +142,14 @@ fn write_regions(m: u16, n: u16, from: &[u16], to: &[u16], bounds: &[u16], count
 }
 
 // Writes the file of the reduced ranges at the start of the output.
-pub(crate) fn write_reduced(file: &[u8], n: u16, from: &[u16], to: &[u16], bounds: &[u16], out: &mut [u8]) -> Size
+pub(crate) fn write_reduced(
+    file: &[u8],
+    n: u16,
+    from: &[u16],
+    to: &[u16],
+    bounds: &[u16],
+    out: &mut [u8],
+) -> Size
     requires { ⌜ Accepted (now file) ⌝ }
     requires { ⌜ Listed (now file) n (now from) (now to) (now bounds) ⌝ }
     requires { ⌜ length (now file) ≤ length (now out) ⌝ }
@@ -147,7 +163,16 @@ pub(crate) fn write_reduced(file: &[u8], n: u16, from: &[u16], to: &[u16], bound
     let leaves = counts[m as usize];
     let total = write_header(m, leaves, n, out);
     write_lengths(m, &ends, out);
-    write_regions(m, n, from, to, bounds, &counts, 16 + 2 * (leaves as usize), out);
+    write_regions(
+        m,
+        n,
+        from,
+        to,
+        bounds,
+        &counts,
+        16 + 2 * (leaves as usize),
+        out,
+    );
     Size {
         bytes: total,
         regions: n,

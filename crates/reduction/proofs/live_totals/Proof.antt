@@ -1,7 +1,7 @@
 -- The live bytes are a selection, so the call of `bounds` writes the totals.
 use native.Mathlib.Omega.{arith}
 use Prim.Native.Nat.{_-_}
-use mathlib.Core.Path.{_≡_, sym, ap, _∙_}
+use mathlib.Core.Path.{sym, _∙_}
 use lib.ListN.{take}
 use denote.Ref.{now}
 use Rattle.reader.specs.Family.{familyOf}

@@ -1,5 +1,5 @@
 -- The causes of the file, then the room, then the reduced file.
-use mathlib.Core.Path.{_≡_, sym, _∙_}
+use mathlib.Core.Path.{sym, _∙_}
 use denote.Ref.{now}
 use Rattle.reduction.proofs.ReduceCalls.{reduce-refused, reduce-short, reduce-written}
 use borrow.Author.Needs.{needs}

@@ -1,6 +1,5 @@
 -- The causes of the first file, then those of the second, then the comparison.
-use native.Mathlib.Omega.{arith}
-use mathlib.Core.Path.{_≡_, sym, _∙_}
+use mathlib.Core.Path.{sym, _∙_}
 use denote.Ref.{now}
 use Rattle.reduction.proofs.ReduceCalls.{first-refused, second-refused, compare-same, compare-different}
 use borrow.Author.Needs.{needs}

@@ -1,6 +1,6 @@
 -- The first bytes of each output are the reduced file.
 use native.Mathlib.Omega.{arith}
-use mathlib.Core.Path.{_≡_, sym, ap₂, _∙_}
+use mathlib.Core.Path.{ap₂, _∙_}
 use denote.Ref.{now}
 use Rattle.reader.specs.Lists.{sameList}
 use Rattle.reduction.proofs.ReduceCalls.{accepted-most, wrote-room, wrote-part}

@@ -1,7 +1,7 @@
 -- The loop has counted the leaf ends up to p.
-use Prim.Native.Nat.{ℕ, _+_, _≤_, _<_, _-_}
+use Prim.Native.Nat.{_+_, _≤_, _-_}
 use native.Mathlib.Omega.{arith}
-use mathlib.Core.Path.{_≡_, refl, _∙_}
+use mathlib.Core.Path.{_≡_, refl}
 use lib.ListN.{length, getD, length-set}
 use denote.Ref.{now}
 use Rattle.reduction.specs.Writing.{Counts}

@@ -1,5 +1,5 @@
 -- The loop has marked the ends of the first k ranges, and m before.
-use Prim.Native.Nat.{ℕ, _+_, _≤_, _<_, _-_}
+use Prim.Native.Nat.{_≤_, _<_, _-_}
 use native.Mathlib.Omega.{arith}
 use mathlib.Core.Path.{_≡_, refl, _∙_}
 use lib.ListN.{length, getD, length-set}
@@ -35,10 +35,10 @@ slice-write-ends c = search needs
 
 loop-holds : tie.Need-loop-holds Inv-loop μ-loop
 loop-holds c = (
-      omega arith,
-      refl,
-      ends-first (c .args .m) (now (c .args .from)) (now (c .args .to)) (now (c .args .ends)) (omega (arith, c .pre .0 .line)) (c .pre .1 .1),
-    )
+  omega arith,
+  refl,
+  ends-first (c .args .m) (now (c .args .from)) (now (c .args .to)) (now (c .args .ends)) (omega (arith, c .pre .0 .line)) (c .pre .1 .1),
+)
 
 mul-ends : tie.Need-mul-ends Inv-loop μ-loop
 mul-ends c = search needs

@@ -1,11 +1,10 @@
 -- The loop has written the lengths of the leaves that end up to p.
-use Prim.Native.Nat.{ℕ, _+_, _*_, _≤_, _<_, _-_}
+use Prim.Native.Nat.{ℕ, _+_, _*_, _≤_, _-_}
 use native.Mathlib.Omega.{arith}
 use mathlib.Core.List.{List, [], _∷_}
-use mathlib.Core.Bool.{true, false}
 use mathlib.Core.Path.{_≡_, refl, sym, ap, _∙_}
 use borrow.Author.Tests.{eq-eqb, ne-eqb}
-use lib.ListN.{length, getD}
+use lib.ListN.{length}
 use denote.Ref.{now}
 use Rattle.bounds.specs.Ranges.{card}
 use Rattle.reduction.specs.Reduction.{lastOf, leafLengths}
@@ -47,12 +46,12 @@ goes-on c = leaf-goes-on (markedIn (now (c .before .before .before .before .befo
 loop-holds : tie.Need-loop-holds Inv-loop μ-loop
 unfolding lastOf card
 loop-holds c = (
-      omega arith,
-      refl,
-      refl,
-      refl,
-      sym (lengths-none (now (c .before .before .args .out)) (markedIn (now (c .before .before .args .ends)))),
-    )
+  omega arith,
+  refl,
+  refl,
+  refl,
+  sym (lengths-none (now (c .before .before .args .out)) (markedIn (now (c .before .before .args .ends)))),
+)
 
 add-p : tie.Need-add-p Inv-loop μ-loop
 add-p c = search needs

@@ -47,10 +47,10 @@ on-line c =
 
 loop-holds : tie.Need-loop-holds Inv-loop μ-loop
 loop-holds c = (
-      omega arith,
-      refl,
-      sym (ap (withNumbers (now (c .before .before .before .before .before .args .out)) (c .before .before .before .before .before .args .at)) (region-numbers-none (now (c .before .before .before .before .before .args .counts)) (now (c .before .before .before .before .before .args .from)) (now (c .before .before .before .before .before .args .to)) (now (c .before .before .before .before .before .args .bounds))) ∙ numbers-none _ _),
-    )
+  omega arith,
+  refl,
+  sym (ap (withNumbers (now (c .before .before .before .before .before .args .out)) (c .before .before .before .before .before .args .at)) (region-numbers-none (now (c .before .before .before .before .before .args .counts)) (now (c .before .before .before .before .before .args .from)) (now (c .before .before .before .before .before .args .to)) (now (c .before .before .before .before .before .args .bounds))) ∙ numbers-none _ _),
+)
 
 mul-first : tie.Need-mul-first Inv-loop μ-loop
 mul-first c = search needs
