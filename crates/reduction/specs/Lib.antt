@@ -5,3 +5,5 @@ pub mod Steps
 pub mod Passes
 pub mod Keeping
 pub mod Calls
+pub mod Writing
+pub mod FileChecks
