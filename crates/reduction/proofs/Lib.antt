@@ -40,8 +40,23 @@ pub mod OpenRegions
 pub mod DeadPeptides
 pub mod NearestLive
 pub mod ListFronts
+-- the bytes of the written family
+pub mod NumberRows
+pub mod LeafEnds
+pub mod WholeFile
+-- the calls
+pub mod LiveSelection
+pub mod ReduceCalls
 -- the one form
 pub mod Curves
 pub mod OneForm
 pub mod OneFile
+pub mod DemandThree
 pub mod Examples
+-- the code that finds the kept stretches and lists the reduced ranges
+pub mod HandedOn
+pub mod StretchPlaces
+pub mod Weighing
+pub mod Marking
+pub mod Bounding
+pub mod Gathering

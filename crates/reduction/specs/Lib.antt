@@ -3,4 +3,7 @@ pub mod Reduction
 pub mod Alike
 pub mod Steps
 pub mod Passes
+pub mod Keeping
 pub mod Calls
+pub mod Writing
+pub mod FileChecks

@@ -1,0 +1,155 @@
+-- Demand 3: the reduced file is the one form of a family. Every sentence of it, over all accepted files.
+-- `Alike F G` says that F and G have the same number m of peptides and, for every path, the same curve.
+use Prim.Native.Nat.{ℕ, _≤_}
+use mathlib.Core.Bool.{Bool}
+use mathlib.Core.List.{List, [], _∷_}
+use mathlib.Core.Path.{_≡_, refl, sym, ap, _∙_}
+use mathlib.Core.Logic.{⊎-elim}
+use native.Mathlib.Omega.{arith}
+use lib.ListN.{length, take, drop}
+use lib.Seq.{take-at}
+use Rattle.reader.specs.Lists.{sameList}
+use Rattle.reader.specs.Bytes.{IsBytes, numberAt}
+use Rattle.reader.specs.Family.{regionCount, familyOf}
+use Rattle.reader.specs.Causes.{firstCause, Accepted}
+use Rattle.reader.specs.Calls.{Report, answer, written}
+use Rattle.reader.proofs.Bools.{test}
+use Rattle.reader.proofs.Lists.{same-equal, same-is}
+use Rattle.reader.proofs.First.{answers, writes}
+use Rattle.reader.proofs.Judged.{laid-down}
+use Rattle.reader.proofs.Accepting.{accepted-header}
+use Rattle.bounds.proofs.Members.{bit}
+use Rattle.reduction.specs.Reduction.{reducedFile}
+use Rattle.reduction.specs.Alike.{Alike}
+use Rattle.reduction.specs.declared.ReducedFile.{ReducedFile}
+use Rattle.reduction.specs.declared.ReducedFile.the-variants as made
+use Rattle.reduction.specs.declared.Compared.{Compared}
+use Rattle.reduction.specs.declared.Compared.the-variants as compared
+use Rattle.reduction.specs.Calls.{reportReduced, reduceCauses, reducedCounts, reportCompared, compareCauses, comparison}
+use Rattle.reduction.proofs.OneFile.{reduced-accepted, reduced-bytes, reduced-file-alike, reduced-file-again, reduced-file-fits, alike-same-file, same-file-alike, smallest-file}
+use Rattle.reduction.proofs.ReduceCalls.{output-suffices, both-accepted}
+
+-- an accepted file
+pub record AcceptedFile : Type 0 where
+  pub file : List ℕ
+  pub bytes : IsBytes file
+  pub accepted : Accepted file
+
+-- what `reduce` promises: r is the answer, and new what is left in the output
+pub record Reduces (file out : List ℕ) (r : ReducedFile) (new : List ℕ) : Type 0 where
+  pub answered : reportReduced r ≡ answer (reduceCauses file out) (reducedCounts file)
+  pub left : new ≡ written (reduceCauses file out) (reducedFile file) out
+
+-- what `same` promises
+pub record Compares (first second : List ℕ) (r : Compared) : Type 0 where
+  pub answered : reportCompared r ≡ answer (compareCauses first second) (comparison first second)
+
+-- the answer has a length, and the reduced file is as many of the first bytes of the output
+pub record AtStart (file : List ℕ) (r : ReducedFile) (new : List ℕ) : Type 0 where
+  pub bytes : ℕ
+  pub regions : ℕ
+  pub counted : r ≡ made.Written bytes regions
+  pub start : take bytes new ≡ reducedFile file
+
+pub record DemandThree : Type 0 where
+  -- The reduced file is bytes, and an accepted file,
+  pub is-bytes : (f : AcceptedFile) → IsBytes (reducedFile (f .file))
+  pub is-accepted : (f : AcceptedFile) → Accepted (reducedFile (f .file))
+  -- with the m of the family and, for every path, its curve.
+  pub keeps-curves : (f : AcceptedFile) → Alike (familyOf (f .file)) (familyOf (reducedFile (f .file)))
+  -- It reduces to itself.
+  pub again : (f : AcceptedFile) → reducedFile (reducedFile (f .file)) ≡ reducedFile (f .file)
+  -- Two files have equal reduced files exactly when they have the same m and, for every path, the same curve.
+  pub equal-if-alike : (f g : AcceptedFile) → Alike (familyOf (f .file)) (familyOf (g .file)) → reducedFile (f .file) ≡ reducedFile (g .file)
+  pub alike-if-equal : (f g : AcceptedFile) → reducedFile (f .file) ≡ reducedFile (g .file) → Alike (familyOf (f .file)) (familyOf (g .file))
+  -- Every file with this m and these curves has at least as many regions, and is at least as long.
+  pub fewest-regions : (f g : AcceptedFile) → Alike (familyOf (f .file)) (familyOf (g .file))
+      → regionCount (familyOf (reducedFile (f .file))) ≤ regionCount (familyOf (g .file))
+  pub shortest : (f g : AcceptedFile) → Alike (familyOf (f .file)) (familyOf (g .file)) → length (reducedFile (f .file)) ≤ length (g .file)
+  -- It is no longer than the file, so an output as long as the file suffices.
+  pub fits : (f : AcceptedFile) → length (reducedFile (f .file)) ≤ length (f .file)
+  -- By its promise `reduce` writes this file,
+  pub reduces : (f : AcceptedFile) (out new : List ℕ) (r : ReducedFile) → length (f .file) ≤ length out → Reduces (f .file) out r new → AtStart (f .file) r new
+  -- and by its promise `same` says yes exactly when the two families are alike.
+  pub alike-if-same : (f g : AcceptedFile) (r : Compared) → Compares (f .file) (g .file) r → r ≡ compared.Same → Alike (familyOf (f .file)) (familyOf (g .file))
+  pub same-if-alike : (f g : AcceptedFile) (r : Compared) → Compares (f .file) (g .file) r → Alike (familyOf (f .file)) (familyOf (g .file)) → r ≡ compared.Same
+
+-- The promises.
+
+-- the length stands in the reduced file at offset 14
+length-said : (f : AcceptedFile) → numberAt (reducedFile (f .file)) 14 ≡ length (reducedFile (f .file))
+length-said f =
+    let s = reducedFile (f .file) in
+    let l = laid-down s (accepted-header s (reduced-accepted (f .file) (f .bytes) (f .accepted)) .no5) in
+    omega arith
+
+module _ (f : AcceptedFile) (out : List ℕ) (room : length (f .file) ≤ length out) where
+  no-cause : firstCause (reduceCauses (f .file) out) ≡ 0
+  no-cause = output-suffices (f .file) out (f .accepted) room
+
+  reduces-to : (r : ReducedFile) (new : List ℕ) → Reduces (f .file) out r new → AtStart (f .file) r new
+  unfolding reportReduced reducedCounts
+  reduces-to (made.Written l k) new p =
+      let s = reducedFile (f .file) in
+      let e = p .answered ∙ answers (reduceCauses (f .file) out) no-cause (reducedCounts (f .file)) in
+      let there : l ≡ length s = cc (ap (λ (r : Report). r .values) e, length-said f) in
+      record {
+        bytes = l;
+        regions = k;
+        counted = refl;
+        start = ap (take l) (p .left ∙ writes (reduceCauses (f .file) out) no-cause s out) ∙ take-at s (drop (length s) out) l (sym there);
+      }
+  reduces-to (made.Refused n) new p =
+      let e = ap (λ (r : Report). length (r .values)) (p .answered ∙ answers (reduceCauses (f .file) out) no-cause (reducedCounts (f .file))) in
+      absurd (omega arith)
+
+module _ (f g : AcceptedFile) where
+  abbrev equal : Bool
+  equal = sameList (reducedFile (f .file)) (reducedFile (g .file))
+
+  -- the answer is 1 or 0
+  says : (r : Compared) → Compares (f .file) (g .file) r → reportCompared r .values ≡ bit equal ∷ []
+  unfolding comparison
+  says r p =
+      ap (λ (r : Report). r .values)
+      (p .answered ∙ answers (compareCauses (f .file) (g .file)) (both-accepted (f .file) (g .file) (f .accepted) (g .accepted)) (comparison (f .file) (g .file)))
+
+  says-equal : (r : Compared) → Compares (f .file) (g .file) r → r ≡ compared.Same → reducedFile (f .file) ≡ reducedFile (g .file)
+  unfolding reportCompared
+  says-equal r p e =
+      let v : _≡_ {A = List ℕ} (1 ∷ []) (bit equal ∷ []) = sym (ap (λ (r : Compared). reportCompared r .values) e) ∙ says r p in
+      ⊎-elim
+      (λ t. same-equal (reducedFile (f .file)) (reducedFile (g .file)) t)
+      (λ t. let z : _≡_ {A = ℕ} 1 0 = cc (v, ap bit t) in absurd (omega arith))
+      (test equal)
+
+  equal-says : (r : Compared) → Compares (f .file) (g .file) r → reducedFile (f .file) ≡ reducedFile (g .file) → r ≡ compared.Same
+  unfolding reportCompared
+  equal-says compared.Same p e = refl
+  equal-says compared.Different p e =
+      let z : _≡_ {A = ℕ} 0 1 = cc (says compared.Different p, ap bit (same-is (reducedFile (f .file)) (reducedFile (g .file)) e)) in
+      absurd (omega arith)
+  equal-says (compared.Refused n) p e = let z = ap length (says (compared.Refused n) p) in absurd (omega arith)
+
+pub demand-three : DemandThree
+demand-three =
+    record {
+      is-bytes = λ f. reduced-bytes (f .file) (f .bytes) (f .accepted);
+      is-accepted = λ f. reduced-accepted (f .file) (f .bytes) (f .accepted);
+      keeps-curves = λ f. reduced-file-alike (f .file) (f .bytes) (f .accepted);
+      again = λ f. reduced-file-again (f .file) (f .bytes) (f .accepted);
+      equal-if-alike = equal-if-alike;
+      alike-if-equal = alike-if-equal;
+      fewest-regions = λ f g a. smallest-file (f .file) (g .file) (f .bytes) (g .bytes) (f .accepted) (g .accepted) a .0 .regions;
+      shortest = λ f g a. smallest-file (f .file) (g .file) (f .bytes) (g .bytes) (f .accepted) (g .accepted) a .1;
+      fits = λ f. reduced-file-fits (f .file) (f .bytes) (f .accepted);
+      reduces = λ f out new r room. reduces-to f out room r new;
+      alike-if-same = λ f g r p e. alike-if-equal f g (says-equal f g r p e);
+      same-if-alike = λ f g r p a. equal-says f g r p (equal-if-alike f g a);
+    }
+  where
+    equal-if-alike : (f g : AcceptedFile) → Alike (familyOf (f .file)) (familyOf (g .file)) → reducedFile (f .file) ≡ reducedFile (g .file)
+    equal-if-alike f g = alike-same-file (f .file) (g .file) (f .bytes) (g .bytes) (f .accepted) (g .accepted)
+
+    alike-if-equal : (f g : AcceptedFile) → reducedFile (f .file) ≡ reducedFile (g .file) → Alike (familyOf (f .file)) (familyOf (g .file))
+    alike-if-equal f g = same-file-alike (f .file) (g .file) (f .bytes) (g .bytes) (f .accepted) (g .accepted)

@@ -1,0 +1,156 @@
+-- The list of the reduced ranges gives the leaf ends, these the counts, and from both the parts of the file are written one after the other.
+use Prim.Native.Nat.{ℕ, _+_, _*_}
+use native.Mathlib.Omega.{arith}
+use mathlib.Core.List.{List}
+use mathlib.Core.Path.{_≡_, refl, sym, ap, _∙_}
+use lib.ListN.{length, getD}
+use denote.Ref.{now}
+use Rattle.reader.specs.Bytes.{IsBytes}
+use Rattle.reader.specs.Family.{familyOf}
+use Rattle.reader.proofs.Parsed.{peptides-read}
+use Rattle.reduction.specs.Reduction.{leafLengths}
+use Rattle.reduction.specs.Writing.{withNumbers, OnLine, endsAt, markedIn, regionNumbers}
+use Rattle.reduction.proofs.LeafEnds.{zeros, marks-itself, counts-small}
+use Rattle.reduction.proofs.WholeFile.{Room, ranges-listed, bounds-there, has-room, wrote}
+use borrow.Author.Needs.{needs}
+use Rattle.reduction.proofs.write.write_reduced.Statement.{statement}
+use Rattle.reduction.proofs.write.write_reduced.Tie as tie
+
+bytes : (c : tie.After-ends) → IsBytes (now (c .before .before .before .before .before .before .before .args .file))
+bytes c i = omega (arith, c .before .before .before .before .before .before .shared-slice-known .given i)
+
+line : (c : tie.After-ends) → c .before .number-at .result ≡ familyOf (now (c .before .before .before .before .before .before .before .args .file)) .peptides
+line c = c .before .number-at .ensures ∙ sym (peptides-read (now (c .before .before .before .before .before .before .before .args .file)))
+
+on-line : (c : tie.After-ends) → OnLine (c .before .number-at .result) (c .before .before .before .before .before .before .before .args .n) (now (c .before .before .before .before .before .before .before .args .from)) (now (c .before .before .before .before .before .before .before .args .to))
+on-line c =
+    let a = c .before .before .before .before .before .before .before .args in
+    ranges-listed (now (a .file)) (bytes c) (c .before .before .before .before .before .before .before .pre .0) (a .n) (now (a .from)) (now (a .to)) (now (a .bounds)) (c .before .before .before .before .before .before .before .pre .1 .0) (c .before .number-at .result) (line c)
+
+-- what is known once the leaf ends are counted
+room : (c : tie.After-counts2)
+    → Room (c .before .before .before .before .before .before .before .number-at .result) (c .before .before .before .before .before .before .before .before .before .before .before .before .before .args .n) (c .before .before .before .before .before .mark-ends .last .1 .1 .1 .1 .0) (c .before .count-ends .last .1 .1 .0) (length (now (c .before .before .before .before .before .before .before .before .before .before .before .before .before .args .out)))
+room c =
+    let a = c .before .before .before .before .before .before .before .before .before .before .before .before .before .args in
+    has-room (now (a .file)) (bytes (c .before .before .before .before .before .before)) (c .before .before .before .before .before .before .before .before .before .before .before .before .before .pre .0) (a .n) (now (a .from)) (now (a .to)) (now (a .bounds)) (c .before .before .before .before .before .before .before .before .before .before .before .before .before .pre .1 .0) (c .before .before .before .before .before .before .before .number-at .result) (line (c .before .before .before .before .before .before))
+    (c .before .before .before .before .before .mark-ends .last .1 .1 .1 .1 .0) (c .before .count-ends .last .1 .1 .0) (c .before .before .before .before .before .mark-ends .ensures) (c .before .count-ends .ensures) (length (now (a .out))) (c .before .before .before .before .before .before .before .before .before .before .before .before .before .pre .1 .1)
+
+number-at-requires : tie.Need-number-at-requires
+number-at-requires c κs = search needs
+
+slice-aggregate-mark-ends : tie.Need-slice-aggregate-mark-ends
+slice-aggregate-mark-ends c = search needs
+
+mark-ends-requires : tie.Need-mark-ends-requires
+mark-ends-requires c κs = (on-line c, (omega arith, λ p. zeros 4097 p))
+
+slice-aggregate-count-ends : tie.Need-slice-aggregate-count-ends
+slice-aggregate-count-ends c = search needs
+
+slice-aggregate-count-ends-2 : tie.Need-slice-aggregate-count-ends-2
+slice-aggregate-count-ends-2 c = search needs
+
+count-ends-requires : tie.Need-count-ends-requires
+count-ends-requires c κs =
+    let a = c .before .before .before .before .before .before .before .before .before .before .before .args in
+    let few = on-line (c .before .before .before .before) .line in (
+      omega (arith, c .before .before .before .mark-ends .kept .1 .1 .1 .1 .0),
+      (omega arith, (refl, marks-itself (c .before .before .before .mark-ends .last .1 .1 .1 .1 .0) (endsAt (c .before .before .before .before .before .number-at .result) (a .n) (now (a .from)) (now (a .to))) (c .before .before .before .mark-ends .ensures))),
+    )
+
+cast-leaves : tie.Need-cast-leaves
+cast-leaves c = search needs
+
+mul-leaves : tie.Need-mul-leaves
+mul-leaves c = search needs
+
+array-read-leaves : tie.Need-array-read-leaves
+array-read-leaves c = omega (arith, room c .line)
+
+write-header-requires : tie.Need-write-header-requires
+write-header-requires c κs =
+    let r = room (c .before) in
+    (r .few-leaves, (r .few-regions, omega (arith, r .enough)))
+
+slice-aggregate-write-lengths : tie.Need-slice-aggregate-write-lengths
+slice-aggregate-write-lengths c = search needs
+
+write-lengths-requires : tie.Need-write-lengths-requires
+write-lengths-requires c κs =
+    let r = room (c .before .before .before .before .before .before) in (
+      omega (arith, r .line, c .before .before .before .before .before .before .before .before .before .before .before .mark-ends .kept .1 .1 .1 .1 .0),
+      omega (arith, r .enough, r .leaf-lengths, c .before .before .before .before .write-header .kept .1 .1 .1 .0),
+    )
+
+slice-aggregate-write-regions : tie.Need-slice-aggregate-write-regions
+slice-aggregate-write-regions c = search needs
+
+cast-write-regions : tie.Need-cast-write-regions
+cast-write-regions c = search needs
+
+mul-write-regions : tie.Need-mul-write-regions
+mul-write-regions c = search needs
+
+add-write-regions : tie.Need-add-write-regions
+add-write-regions c = search needs
+
+write-regions-requires : tie.Need-write-regions-requires
+write-regions-requires c κs =
+    let r = room (c .before .before .before .before .before .before .before .before .before .before .before) in
+    let a = c .before .before .before .before .before .before .before .before .before .before .before .before .before .before .before .before .before .before .before .before .before .before .before .before .args in
+    let s = now (a .file) in (
+      on-line (c .before .before .before .before .before .before .before .before .before .before .before .before .before .before .before .before .before),
+      (
+        bounds-there s (bytes (c .before .before .before .before .before .before .before .before .before .before .before .before .before .before .before .before .before)) (c .before .before .before .before .before .before .before .before .before .before .before .before .before .before .before .before .before .before .before .before .before .before .before .before .pre .0) (a .n) (now (a .from)) (now (a .to)) (now (a .bounds)) (c .before .before .before .before .before .before .before .before .before .before .before .before .before .before .before .before .before .before .before .before .before .before .before .before .pre .1 .0),
+        (
+          omega (arith, c .before .before .before .before .before .before .before .before .before .before .before .before .count-ends .kept .1 .1 .0),
+          (
+            counts-small (c .before .before .before .before .before .before .before .before .before .before .before .before .before .before .before .before .mark-ends .last .1 .1 .1 .1 .0) (c .before .before .before .before .before .before .before .before .before .before .before .before .count-ends .last .1 .1 .0) (c .before .before .before .before .before .before .before .before .before .before .before .before .before .before .before .before .before .before .number-at .result) (c .before .before .before .before .before .before .before .before .before .before .before .before .count-ends .ensures),
+            omega (arith, r .enough, c .before .before .before .before .before .before .before .before .before .write-header .kept .1 .1 .1 .0, c .before .before .before .before .write-lengths .kept .1 .1 .0),
+          ),
+        ),
+      ),
+    )
+
+same-length : tie.Need-same-length
+same-length c = search needs
+
+returns : tie.Need-returns
+returns c =
+    let a = c .before .before .before .before .before .before .before .before .before .before .before .before .before .before .before .before .before .before .before .before .before .before .before .before .before .before .before .args in
+    let m = c .before .before .before .before .before .before .before .before .before .before .before .before .before .before .before .before .before .before .before .before .before .number-at .result in
+    let E = c .before .before .before .before .before .before .before .before .before .before .before .before .before .before .before .before .before .before .before .mark-ends .last .1 .1 .1 .1 .0 in
+    let C = c .before .before .before .before .before .before .before .before .before .before .before .before .before .before .before .count-ends .last .1 .1 .0 in
+    let lengths = leafLengths m (markedIn E) in
+    let regions = regionNumbers (a .n) C (now (a .from)) (now (a .to)) (now (a .bounds)) in
+    let parts =
+    c .before .before .write-regions .ensures
+    ∙ ap (λ (l : List ℕ). withNumbers l (16 + 2 * getD C m 0) regions)
+    (c .before .before .before .before .before .before .before .write-lengths .ensures ∙ ap (λ (l : List ℕ). withNumbers l 16 lengths) (c .before .before .before .before .before .before .before .before .before .before .before .before .write-header .ensures .1)) in
+    rw parts
+    (wrote (now (a .file)) (bytes (c .before .before .before .before .before .before .before .before .before .before .before .before .before .before .before .before .before .before .before .before)) (c .before .before .before .before .before .before .before .before .before .before .before .before .before .before .before .before .before .before .before .before .before .before .before .before .before .before .before .pre .0) (a .n) (now (a .from)) (now (a .to)) (now (a .bounds)) (c .before .before .before .before .before .before .before .before .before .before .before .before .before .before .before .before .before .before .before .before .before .before .before .before .before .before .before .pre .1 .0) m (line (c .before .before .before .before .before .before .before .before .before .before .before .before .before .before .before .before .before .before .before .before)) E C
+    (c .before .before .before .before .before .before .before .before .before .before .before .before .before .before .before .before .before .before .before .mark-ends .ensures) (c .before .before .before .before .before .before .before .before .before .before .before .before .before .before .before .count-ends .ensures) (now (a .out)) (c .before .before .before .before .before .before .before .before .before .before .before .before .write-header .result) (c .before .before .before .before .before .before .before .before .before .before .before .before .before .before .before .before .before .before .before .before .before .before .before .before .before .before .before .pre .1 .1) (c .before .before .before .before .before .before .before .before .before .before .before .before .write-header .ensures .0))
+
+pub write-reduced-spec : {M : Type 1} → statement M
+write-reduced-spec =
+    tie.close
+    (tie.spec
+    number-at-requires
+    slice-aggregate-mark-ends
+    mark-ends-requires
+    slice-aggregate-count-ends
+    slice-aggregate-count-ends-2
+    count-ends-requires
+    cast-leaves
+    mul-leaves
+    array-read-leaves
+    write-header-requires
+    slice-aggregate-write-lengths
+    write-lengths-requires
+    slice-aggregate-write-regions
+    cast-write-regions
+    mul-write-regions
+    add-write-regions
+    write-regions-requires
+    same-length
+    returns)

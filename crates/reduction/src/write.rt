@@ -1,0 +1,180 @@
+// The file of the reduced ranges, written at the start of the output: where leaves end, how many end up to each peptide,
+// and from these the header, the leaf lengths and the regions.
+use crate::Size;
+use reader::bytes::number_at;
+ghost use mathlib.Core.Path.{_≡_};
+ghost use mathlib.Core.List.{[], _∷_, _++_};
+ghost use Prim.Native.Nat.{ℕ, _+_, _*_, _<_, _≤_};
+ghost use lib.ListN.{length, getD};
+ghost use lib.Seq.{sets};
+ghost use Rattle.reader.specs.Bytes.{bytesOf};
+ghost use Rattle.reader.specs.Family.{mark};
+ghost use Rattle.reader.specs.Causes.{Accepted};
+ghost use Rattle.bounds.specs.Ranges.{card};
+ghost use Rattle.reduction.specs.Reduction.{leafLengths};
+ghost use Rattle.reduction.specs.Steps.{Listed};
+ghost use Rattle.reduction.specs.Writing.{withNumbers, headerNumbers, OnLine, endsAt, Marks, markedIn, Counts, regionNumbers, Wrote};
+
+// Writes a number as two bytes, low byte first.
+fn put_number(out: &mut [u8], at: usize, n: u16)
+    requires { ⌜ at + 2 ≤ length (now out) ⌝ }
+    ensures { λ _. ⌜ now (out .exit) ≡ withNumbers (now (out .entry)) at (n ∷ []) ⌝ }
+{
+    out[at] = (n % 256) as u8;
+    out[at + 1] = (n / 256) as u8;
+}
+
+// Writes numbers in a row.
+fn put_numbers(out: &mut [u8], at: usize, numbers: &[u16])
+    requires { ⌜ at + 2 * length (now numbers) ≤ length (now out) ⌝ }
+    ensures { λ _. ⌜ now (out .exit) ≡ withNumbers (now (out .entry)) at (now (numbers .entry)) ⌝ }
+{
+    let mut i = 0;
+    while i < numbers.len() {
+        put_number(out, at + 2 * i, numbers[i]);
+        i += 1;
+    }
+}
+
+fn put_mark(out: &mut [u8])
+    requires { ⌜ 4 ≤ length (now out) ⌝ }
+    ensures { λ _. ⌜ now (out .exit) ≡ sets (now (out .entry)) 0 mark ⌝ }
+{
+    let mark = b"PHFB";
+    out[0] = mark[0];
+    out[1] = mark[1];
+    out[2] = mark[2];
+    out[3] = mark[3];
+}
+
+// Writes the mark and the six numbers of the header; the answer is the last of them, the length of the file.
+fn write_header(m: u16, leaves: u16, regions: u16, out: &mut [u8]) -> u16
+    requires { ⌜ leaves ≤ 4096 ⌝ }
+    requires { ⌜ regions ≤ 8191 ⌝ }
+    requires { ⌜ 16 ≤ length (now out) ⌝ }
+    ensures { λ r. ⌜ r ≡ 16 + 2 * leaves + 6 * regions ⌝ }
+    ensures { λ _. ⌜ now (out .exit) ≡ sets (now (out .entry)) 0 (mark ++ bytesOf (headerNumbers m leaves regions)) ⌝ }
+{
+    let regions_at = 16 + 2 * leaves;
+    let total = regions_at + 6 * regions;
+    let numbers = [m, leaves, regions, 16, regions_at, total];
+    put_mark(out);
+    put_numbers(out, 4, &numbers);
+    total
+}
+
+// Marks where leaves end. Place 0 is marked too where a range begins at peptide 1; nobody asks there.
+fn mark_ends(m: u16, n: u16, from: &[u16], to: &[u16], ends: &mut [u8])
+    requires { ⌜ OnLine m n (now from) (now to) ⌝ }
+    requires { ⌜ 4096 < length (now ends) ⌝ }
+    requires { ⌜ ((p : ℕ) → getD (now ends) p 0 ≡ 0) ⌝ }
+    ensures { λ _. ⌜ Marks (now (ends .exit)) (endsAt m n (now (from .entry)) (now (to .entry))) ⌝ }
+{
+    ends[m as usize] = 1;
+    let mut k: usize = 0;
+    while k < n as usize {
+        ends[(from[k] - 1) as usize] = 1;
+        ends[to[k] as usize] = 1;
+        k += 1;
+    }
+}
+
+// Counts the leaf ends up to each peptide.
+fn count_ends(m: u16, ends: &[u8], counts: &mut [u16])
+    requires { ⌜ m < length (now ends) ⌝ }
+    requires { ⌜ m < length (now counts) ⌝ }
+    requires { ⌜ getD (now counts) 0 0 ≡ 0 ⌝ }
+    requires { ⌜ Marks (now ends) (markedIn (now ends)) ⌝ }
+    ensures { λ _. ⌜ Counts m (now (ends .entry)) (now (counts .exit)) ⌝ }
+{
+    let mut p: usize = 0;
+    while p < m as usize {
+        counts[p + 1] = counts[p] + ends[p + 1] as u16;
+        p += 1;
+    }
+}
+
+// Writes the length of each leaf, from one leaf end to the next.
+fn write_lengths(m: u16, ends: &[u8], out: &mut [u8])
+    requires { ⌜ m < length (now ends) ⌝ }
+    requires { ⌜ 16 + 2 * card m (markedIn (now ends)) ≤ length (now out) ⌝ }
+    ensures { λ _. ⌜ now (out .exit) ≡ withNumbers (now (out .entry)) 16 (leafLengths m (markedIn (now (ends .entry)))) ⌝ }
+{
+    let mut at: usize = 16;
+    let mut last: u16 = 0;
+    let mut p: u16 = 0;
+    while p < m {
+        p += 1;
+        if ends[p as usize] == 1 {
+            put_number(out, at, p - last);
+            at += 2;
+            last = p;
+        }
+    }
+}
+
+// Writes the regions: a range begins with the leaf after those that end before it, and ends with the leaf that ends where it does.
+fn write_regions(
+    m: u16,
+    n: u16,
+    from: &[u16],
+    to: &[u16],
+    bounds: &[u16],
+    counts: &[u16],
+    at: usize,
+    out: &mut [u8],
+)
+    requires { ⌜ OnLine m n (now from) (now to) ⌝ }
+    requires { ⌜ n ≤ length (now bounds) ⌝ }
+    requires { ⌜ 4096 < length (now counts) ⌝ }
+    requires { ⌜ ((p : ℕ) → p ≤ m → getD (now counts) p 0 ≤ m) ⌝ }
+    requires { ⌜ at + 6 * n ≤ length (now out) ⌝ }
+    ensures { λ _. ⌜ now (out .exit) ≡ withNumbers (now (out .entry)) at (regionNumbers n (now (counts .entry)) (now (from .entry)) (now (to .entry)) (now (bounds .entry))) ⌝ }
+{
+    let mut k: usize = 0;
+    while k < n as usize {
+        let first = counts[(from[k] - 1) as usize] + 1;
+        let last = counts[to[k] as usize];
+        let region = [first, last, bounds[k]];
+        put_numbers(out, at + 6 * k, &region);
+        k += 1;
+    }
+}
+
+// Writes the file of the reduced ranges at the start of the output.
+pub(crate) fn write_reduced(
+    file: &[u8],
+    n: u16,
+    from: &[u16],
+    to: &[u16],
+    bounds: &[u16],
+    out: &mut [u8],
+) -> Size
+    requires { ⌜ Accepted (now file) ⌝ }
+    requires { ⌜ Listed (now file) n (now from) (now to) (now bounds) ⌝ }
+    requires { ⌜ length (now file) ≤ length (now out) ⌝ }
+    ensures { λ r. ⌜ Wrote (now (file .entry)) (now (out .entry)) (now (out .exit)) (r .bytes) (r .regions) ⌝ }
+{
+    let m = number_at(file, 4);
+    let mut ends = [0u8; 4097];
+    mark_ends(m, n, from, to, &mut ends);
+    let mut counts = [0u16; 4097];
+    count_ends(m, &ends, &mut counts);
+    let leaves = counts[m as usize];
+    let total = write_header(m, leaves, n, out);
+    write_lengths(m, &ends, out);
+    write_regions(
+        m,
+        n,
+        from,
+        to,
+        bounds,
+        &counts,
+        16 + 2 * (leaves as usize),
+        out,
+    );
+    Size {
+        bytes: total,
+        regions: n,
+    }
+}
