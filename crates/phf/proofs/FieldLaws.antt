@@ -1,17 +1,17 @@
 -- The fields of each case of an answer.
-use Prim.Native.Nat.{ℕ, _+_, _*_, _≤_}
+use Prim.Native.Nat.{ℕ, _*_}
 use native.Mathlib.Omega.{arith}
 use mathlib.Core.Bool.{Bool, true, false, cond}
-use mathlib.Core.List.{List, [], _∷_}
-use mathlib.Core.Path.{_≡_, refl, sym, ap, ap₂, _∙_}
+use mathlib.Core.List.{List}
+use mathlib.Core.Path.{_≡_, refl, sym, _∙_}
 use lib.ListN.{length, take, drop, length-drop}
 use lib.Seq.{take-all}
 use lib.Dec.{eqb}
 use borrow.Author.Tests.{ne-eqb}
 use Rattle.reader.specs.Family.{familyOf, leaves, regionCount, regionsOffset}
 use Rattle.reader.specs.Causes.{firstCause, fileCauses, Accepted}
-use Rattle.reader.specs.Calls.{Report, report, checked, regionPart}
-use Rattle.reader.proofs.Accepting.{accepted-header, whole-length, part-accepted, part-refused}
+use Rattle.reader.specs.Calls.{report, regionPart}
+use Rattle.reader.proofs.Accepting.{accepted-header, whole-length, part-accepted}
 use Rattle.reader.specs.declared.Checked.{Checked}
 use Rattle.reader.specs.declared.Checked.the-variants as told
 use Rattle.bounds.specs.declared.Bounded.{Bounded}
@@ -20,13 +20,13 @@ use Rattle.bounds.specs.declared.Curved.{Curved}
 use Rattle.bounds.specs.declared.Curved.the-variants as curved
 use Rattle.bounds.specs.declared.CutFound.{CutFound}
 use Rattle.bounds.specs.declared.CutFound.the-variants as cutFound
+use Rattle.reduction.specs.declared.ReducedFile.{ReducedFile}
+use Rattle.reduction.specs.declared.ReducedFile.the-variants as made
+use Rattle.reduction.specs.declared.Compared.{Compared}
+use Rattle.reduction.specs.declared.Compared.the-variants as compared
+use Rattle.reduction.specs.Calls.{reportReduced, reportCompared}
 use Rattle.bounds.specs.Calls.{reportBound, reportCurve, reportCut}
-use Rattle.phf.specs.declared.PhfChecked.{PhfChecked}
-use Rattle.phf.specs.declared.PhfPart.{PhfPart}
-use Rattle.phf.specs.declared.PhfBounded.{PhfBounded}
-use Rattle.phf.specs.declared.PhfCurved.{PhfCurved}
-use Rattle.phf.specs.declared.PhfCutting.{PhfCutting}
-use Rattle.phf.specs.Fields.{valueAt, valueWith, checkedFields, partFields, boundedFields, curvedFields, cuttingFields}
+use Rattle.phf.specs.Fields.{valueAt, valueWith, checkedFields, partFields, boundedFields, curvedFields, cuttingFields, reducedFields, comparedFields}
 
 either-zero : (b : Bool) → _≡_ {A = ℕ} (cond b 0 0) 0
 either-zero true = refl
@@ -93,3 +93,25 @@ cut-refused r number e = rw (e, either-zero (eqb number 13), either-zero (eqb nu
 pub cut-repeated : (r : CutFound) (place : ℕ) → r ≡ cutFound.Repeated place → record { number = 13; place = place; cut = 0 } ≡ cuttingFields (reportCut r)
 unfolding cuttingFields valueWith valueAt reportCut
 cut-repeated r place e = rw e
+
+-- The reduction and the comparison.
+
+pub reduction-written : (r : ReducedFile) (l k : ℕ) → r ≡ made.Written l k → record { number = 0; length = l; regions = k } ≡ reducedFields (reportReduced r)
+unfolding reducedFields valueAt reportReduced
+reduction-written r l k e = rw e
+
+pub reduction-refused : (r : ReducedFile) (number : ℕ) → r ≡ made.Refused number → record { number = number; length = 0; regions = 0 } ≡ reducedFields (reportReduced r)
+unfolding reducedFields valueAt reportReduced
+reduction-refused r number e = rw e
+
+pub compared-same : (r : Compared) → r ≡ compared.Same → record { number = 0; same = 1 } ≡ comparedFields (reportCompared r)
+unfolding comparedFields valueAt reportCompared
+compared-same r e = rw e
+
+pub compared-different : (r : Compared) → r ≡ compared.Different → record { number = 0; same = 0 } ≡ comparedFields (reportCompared r)
+unfolding comparedFields valueAt reportCompared
+compared-different r e = rw e
+
+pub compared-refused : (r : Compared) (number : ℕ) → r ≡ compared.Refused number → record { number = number; same = 0 } ≡ comparedFields (reportCompared r)
+unfolding comparedFields valueAt reportCompared
+compared-refused r number e = rw e

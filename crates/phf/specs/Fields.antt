@@ -15,6 +15,8 @@ use Rattle.phf.specs.declared.PhfPart.{PhfPart}
 use Rattle.phf.specs.declared.PhfBounded.{PhfBounded}
 use Rattle.phf.specs.declared.PhfCurved.{PhfCurved}
 use Rattle.phf.specs.declared.PhfCutting.{PhfCutting}
+use Rattle.phf.specs.declared.PhfReduced.{PhfReduced}
+use Rattle.phf.specs.declared.PhfCompared.{PhfCompared}
 
 -- the i-th value of an answer, counted from 0; 0 if it has none there
 unfoldable pub valueAt : Report → ℕ → ℕ
@@ -36,6 +38,12 @@ partFields file =
 
 unfoldable pub boundedFields : Report → PhfBounded
 boundedFields r = record { number = r .number; bound = valueAt r 0 }
+
+unfoldable pub reducedFields : Report → PhfReduced
+reducedFields r = record { number = r .number; length = valueAt r 0; regions = valueAt r 1 }
+
+unfoldable pub comparedFields : Report → PhfCompared
+comparedFields r = record { number = r .number; same = valueAt r 0 }
 
 unfoldable pub curvedFields : Report → PhfCurved
 curvedFields r = record { number = r .number; place = valueWith 13 r }

@@ -5,6 +5,8 @@ use bounds::Bounded;
 use bounds::Curved;
 use bounds::CutFound;
 use reader::Checked;
+use reduction::Compared;
+use reduction::ReducedFile;
 ghost use mathlib.Core.Path.{_≡_};
 ghost use mathlib.Core.List.{[], _∷_};
 ghost use lib.ListN.{take, drop};
@@ -13,7 +15,9 @@ ghost use Rattle.reader.specs.Calls.{answer, written, checked, regionPart};
 ghost use Rattle.bounds.specs.Selections.{boundOf, takenOf};
 ghost use Rattle.bounds.specs.Curves.{curveValues, curveMarks, cutOf};
 ghost use Rattle.bounds.specs.Calls.{selectionCauses, curveCauses, cutCauses};
-ghost use Rattle.phf.specs.Fields.{checkedFields, partFields, boundedFields, CurveAnswer, CutAnswer};
+ghost use Rattle.reduction.specs.Reduction.{reducedFile};
+ghost use Rattle.reduction.specs.Calls.{reduceCauses, reducedCounts, compareCauses, comparison};
+ghost use Rattle.phf.specs.Fields.{checkedFields, partFields, boundedFields, CurveAnswer, CutAnswer, reducedFields, comparedFields};
 
 #[repr(C)]
 pub struct PhfChecked {
@@ -46,6 +50,19 @@ pub struct PhfCutting {
     pub number: u16,
     pub place: u16,
     pub cut: u16,
+}
+
+#[repr(C)]
+pub struct PhfReduced {
+    pub number: u16,
+    pub length: u16,
+    pub regions: u16,
+}
+
+#[repr(C)]
+pub struct PhfCompared {
+    pub number: u16,
+    pub same: u16,
 }
 
 // Whether the bytes are an accepted family: m, N and K, or the number of the first cause that holds.
@@ -151,5 +168,37 @@ pub extern "C" fn phf_cut(file: &[u8], path: &[u16], a: u16, b: u16) -> PhfCutti
             place,
             cut: 0,
         },
+    }
+}
+
+// Writes the reduced file at the start of the output: its length and number of regions.
+#[no_mangle]
+pub extern "C" fn phf_reduce(file: &[u8], out: &mut [u8]) -> PhfReduced
+    ensures { λ r. ⌜ r ≡ reducedFields (answer (reduceCauses (now (file .entry)) (now (out .entry))) (reducedCounts (now (file .entry)))) ⌝ }
+    ensures { λ _. ⌜ now (out .exit) ≡ written (reduceCauses (now (file .entry)) (now (out .entry))) (reducedFile (now (file .entry))) (now (out .entry)) ⌝ }
+{
+    match reduction::reduce(file, out) {
+        ReducedFile::Written { length, regions } => PhfReduced {
+            number: 0,
+            length,
+            regions,
+        },
+        ReducedFile::Refused(number) => PhfReduced {
+            number,
+            length: 0,
+            regions: 0,
+        },
+    }
+}
+
+// Whether two families reduce to the same file: 1 for yes, 0 for no.
+#[no_mangle]
+pub extern "C" fn phf_same(first: &[u8], second: &[u8]) -> PhfCompared
+    ensures { λ r. ⌜ r ≡ comparedFields (answer (compareCauses (now (first .entry)) (now (second .entry))) (comparison (now (first .entry)) (now (second .entry)))) ⌝ }
+{
+    match reduction::same(first, second) {
+        Compared::Same => PhfCompared { number: 0, same: 1 },
+        Compared::Different => PhfCompared { number: 0, same: 0 },
+        Compared::Refused(number) => PhfCompared { number, same: 0 },
     }
 }
