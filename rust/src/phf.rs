@@ -82,9 +82,7 @@ extern "C" {
         a: u16,
         b: u16,
     ) -> Cutting;
-    #[cfg(feature = "reduction")]
     fn phf_reduce(file: *const u8, file_len: usize, out: *mut u8, out_len: usize) -> Reduced;
-    #[cfg(feature = "reduction")]
     fn phf_same(
         first: *const u8,
         first_len: usize,
@@ -136,16 +134,10 @@ pub fn cut(file: &[u8], path: &[u16], a: u16, b: u16) -> Cutting {
     unsafe { phf_cut(file.as_ptr(), file.len(), path.as_ptr(), path.len(), a, b) }
 }
 
-#[cfg(feature = "reduction")]
 pub fn reduce(file: &[u8], out: &mut [u8]) -> Reduced {
     unsafe { phf_reduce(file.as_ptr(), file.len(), out.as_mut_ptr(), out.len()) }
 }
 
-#[cfg(feature = "reduction")]
 pub fn same(first: &[u8], second: &[u8]) -> Compared {
     unsafe { phf_same(first.as_ptr(), first.len(), second.as_ptr(), second.len()) }
 }
-
-// Until the library has the two calls, the tests and the benchmarks of them run on the plain Rust ones.
-#[cfg(not(feature = "reduction"))]
-pub use crate::fast::{reduce, same};

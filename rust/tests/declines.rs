@@ -245,7 +245,7 @@ fn nested(random: &mut Random) -> Family {
 fn damaged_files() {
     let seen = Seen::default();
     let eight = file_of(&eight_peptides());
-    cases(30, 12_000, |random| {
+    cases(30, 30_000, |random| {
         let family = nested(random);
         let m = family.peptides as usize;
         let whole = file_of(&family);
@@ -276,7 +276,7 @@ fn damaged_files() {
 #[test]
 fn damaged_inputs() {
     let seen = Seen::default();
-    cases(31, 6_000, |random| {
+    cases(31, 20_000, |random| {
         let family = nested(random);
         let m = family.peptides as usize;
         let k = family.regions.len();
@@ -326,7 +326,7 @@ fn damaged_inputs() {
 /// Bytes of any kind behind a good mark.
 #[test]
 fn random_bytes() {
-    cases(32, 4_000, |random| {
+    cases(32, 20_000, |random| {
         let mut file = b"PHFB".to_vec();
         for _ in 0..random.below(120) {
             let small = random.below(256) * random.below(2) * random.below(2);

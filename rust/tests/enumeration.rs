@@ -85,7 +85,7 @@ fn every_family_up_to_four_peptides() {
 
 #[test]
 fn random_families_of_twenty_peptides_and_fewer() {
-    cases(20, 400, |random| {
+    cases(20, 1500, |random| {
         let m = random.between(1, 14);
         let family = random_family(random, m);
         let sets = Admissible::of(&family);
@@ -100,7 +100,7 @@ fn random_families_of_twenty_peptides_and_fewer() {
             holds_curve(random, m, &sets, &file, &path);
         }
     });
-    cases(21, 40, |random| {
+    cases(21, 100, |random| {
         let m = random.between(15, 20);
         let family = random_family(random, m);
         let sets = Admissible::of(&family);

@@ -36,9 +36,6 @@ fn compiler(name: &str, words: &[&str]) -> Command {
         .args(words)
         .args(["-pedantic", "-Wall", "-Wextra", "-Werror", "-O1", "-I"])
         .arg(root().join("include"));
-    if cfg!(feature = "reduction") {
-        command.arg("-DWITH_REDUCTION");
-    }
     command.arg(Path::new(env!("CARGO_MANIFEST_DIR")).join("tests/c/eight.c"));
     command
 }

@@ -52,7 +52,7 @@ fn random_families_up_to_seven_peptides() {
 
 #[test]
 fn reduced_files_are_accepted_keep_the_curves_and_reduce_to_themselves() {
-    cases(41, 300, |random| {
+    cases(41, 600, |random| {
         let m = random.between(1, 200);
         let family = random_family(random, m);
         let file = file_of(&family);

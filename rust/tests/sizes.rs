@@ -29,7 +29,7 @@ fn all_calls(random: &mut Random, family: &Family) {
 
 #[test]
 fn small_sizes_one_by_one() {
-    cases(1, 40, |random| {
+    cases(1, 100, |random| {
         for m in 1..=80 {
             let family = random_family(random, m);
             all_calls(random, &family);
@@ -39,7 +39,7 @@ fn small_sizes_one_by_one() {
 
 #[test]
 fn middle_sizes() {
-    cases(2, 60, |random| {
+    cases(2, 150, |random| {
         let m = random.between(81, 1000);
         let family = random_family(random, m);
         all_calls(random, &family);
@@ -48,7 +48,7 @@ fn middle_sizes() {
 
 #[test]
 fn large_sizes() {
-    cases(3, 8, |random| {
+    cases(3, 16, |random| {
         let m = random.between(1000, 4096);
         let family = random_family(random, m);
         all_calls(random, &family);

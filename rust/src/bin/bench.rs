@@ -447,7 +447,4 @@ fn main() {
         "\nNo call over 1.5 times the Rust one: {met}. Worst check: {} µs.",
         micro(worst)
     );
-    if cfg!(not(feature = "reduction")) {
-        println!("reduce and same: the Rust code stands in for the library on both sides.");
-    }
 }

@@ -90,7 +90,6 @@ static void curve_and_cut(void)
     HOLDS(cut.number == 13 && cut.place == 3 && cut.cut == 0);
 }
 
-#ifdef WITH_REDUCTION
 static void reduce_and_same(void)
 {
     const uint8_t expected[36] = {
@@ -112,16 +111,13 @@ static void reduce_and_same(void)
     compared = phf_same(eight, sizeof eight, out, 35);
     HOLDS(compared.number == 105 && compared.same == 0);
 }
-#endif
 
 int main(void)
 {
     check_and_regions();
     bound();
     curve_and_cut();
-#ifdef WITH_REDUCTION
     reduce_and_same();
-#endif
     if (failures == 0)
         printf("ok\n");
     return failures != 0;
