@@ -3,7 +3,7 @@
 
 use phf_tests::families::{binary_tree, chain, eight_peptides, family, towers, Bounds};
 use phf_tests::random::Random;
-use phf_tests::reference::{file_of, Family};
+use phf_tests::reference::{file_of, Family, Region};
 use phf_tests::{fast, phf};
 use std::hint::black_box;
 use std::time::{Duration, Instant};
@@ -310,31 +310,30 @@ fn hostile_files() -> Vec<(&'static str, Vec<u8>)> {
     let random = &mut Random::new(3);
     let largest = binary_tree(random, 4096, 1, Bounds::Mixed);
     let mut crossing = largest.clone();
-    // the last two leaves' regions: the last but one now reaches into the last
-    let k = crossing.regions.len();
-    crossing.regions[k - 2].last += 1;
-    crossing.regions[k - 3].last -= 1;
+    // one of the last regions reaches into its neighbour
+    for region in &mut crossing.regions {
+        if (region.first, region.last) == (4093, 4094) {
+            region.last = 4095;
+        }
+    }
     let mut steps = family(&[1; 4096], &[]);
     for first in 1..=4096u16 {
-        // towers that are left at one go: the climb from the innermost to the next is as long as can be
+        // towers that are left at one go: the climb from the innermost is as long as can be
         let tower = (first - 1) / 64;
-        steps.regions.push(phf_tests::reference::Region {
+        steps.regions.push(Region {
             first,
             last: 64 * (tower + 1),
             z: 1,
         });
     }
-    let mut too_deep = towers(random, 4032, 63, Bounds::Mixed);
-    too_deep.peptides = 4096;
-    too_deep.lengths = vec![1; 4096];
-    let end: Vec<u16> = (4032..4096).collect();
-    too_deep
-        .regions
-        .extend(end.iter().map(|first| phf_tests::reference::Region {
-            first: first + 1,
-            last: 4096,
-            z: 1,
-        }));
+    // the last tower has one region too many
+    let mut too_deep = family(&[1; 4096], &[]);
+    too_deep.regions = steps.regions[..3968].to_vec();
+    too_deep.regions.extend((3969..=4033).map(|first| Region {
+        first,
+        last: 4033,
+        z: 1,
+    }));
     vec![
         ("largest, accepted", file_of(&largest)),
         ("largest, the last regions cross", file_of(&crossing)),
