@@ -1,0 +1,2 @@
+-- The definitions that the promises of the C interface are written with.
+pub mod Fields

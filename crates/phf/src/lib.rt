@@ -1,0 +1,204 @@
+// The C interface: the calls of the three libraries under C names, and nothing else. include/phf.h is this file as C sees it.
+// A slice is a pointer and a number of elements. An answer is a struct by value: the number of the first cause that holds,
+// 0 for none, then the values; a field that has no value is 0.
+use bounds::Bounded;
+use bounds::Curved;
+use bounds::CutFound;
+use reader::Checked;
+use reduction::Compared;
+use reduction::ReducedFile;
+ghost use mathlib.Core.Path.{_≡_};
+ghost use mathlib.Core.List.{[], _∷_};
+ghost use lib.ListN.{take, drop};
+ghost use Rattle.reader.specs.Family.{familyOf};
+ghost use Rattle.reader.specs.Calls.{answer, written, checked, regionPart};
+ghost use Rattle.bounds.specs.Selections.{boundOf, takenOf};
+ghost use Rattle.bounds.specs.Curves.{curveValues, curveMarks, cutOf};
+ghost use Rattle.bounds.specs.Calls.{selectionCauses, curveCauses, cutCauses};
+ghost use Rattle.reduction.specs.Reduction.{reducedFile};
+ghost use Rattle.reduction.specs.Calls.{reduceCauses, reducedCounts, compareCauses, comparison};
+ghost use Rattle.phf.specs.Fields.{checkedFields, partFields, boundedFields, CurveAnswer, CutAnswer, reducedFields, comparedFields};
+
+#[repr(C)]
+pub struct PhfChecked {
+    pub number: u16,
+    pub peptides: u16,
+    pub leaves: u16,
+    pub regions: u16,
+}
+
+#[repr(C)]
+pub struct PhfPart {
+    pub offset: u32,
+    pub length: u32,
+}
+
+#[repr(C)]
+pub struct PhfBounded {
+    pub number: u16,
+    pub bound: u16,
+}
+
+#[repr(C)]
+pub struct PhfCurved {
+    pub number: u16,
+    pub place: u16,
+}
+
+#[repr(C)]
+pub struct PhfCutting {
+    pub number: u16,
+    pub place: u16,
+    pub cut: u16,
+}
+
+#[repr(C)]
+pub struct PhfReduced {
+    pub number: u16,
+    pub length: u16,
+    pub regions: u16,
+}
+
+#[repr(C)]
+pub struct PhfCompared {
+    pub number: u16,
+    pub same: u16,
+}
+
+// Whether the bytes are an accepted family: m, N and K, or the number of the first cause that holds.
+#[no_mangle]
+pub extern "C" fn phf_check(file: &[u8]) -> PhfChecked
+    ensures { λ r. ⌜ r ≡ checkedFields (checked (now (file .entry))) ⌝ }
+{
+    match reader::check(file) {
+        Checked::Family {
+            peptides,
+            leaves,
+            regions,
+        } => PhfChecked {
+            number: 0,
+            peptides,
+            leaves,
+            regions,
+        },
+        Checked::Refused(number) => PhfChecked {
+            number,
+            peptides: 0,
+            leaves: 0,
+            regions: 0,
+        },
+    }
+}
+
+// Where the regions stand in an accepted file: the offset of their first byte and how many bytes they have.
+// C cannot be handed a part of the file, so it gets the part's place.
+#[no_mangle]
+pub extern "C" fn phf_regions(file: &[u8]) -> PhfPart
+    ensures { λ r. ⌜ r ≡ partFields (now (file .entry)) ⌝ }
+    ensures { λ r. ⌜ take (r .length) (drop (r .offset) (now (file .entry))) ≡ regionPart (now (file .entry)) ⌝ }
+{
+    match reader::check(file) {
+        Checked::Family {
+            peptides: _,
+            leaves,
+            regions,
+        } => PhfPart {
+            offset: 16 + 2 * (leaves as u32),
+            length: 6 * (regions as u32),
+        },
+        Checked::Refused(_) => PhfPart {
+            offset: 0,
+            length: 0,
+        },
+    }
+}
+
+// The bound of a selection, and for each region, in file order, 1 if it is taken, else 0.
+#[no_mangle]
+pub extern "C" fn phf_bound(file: &[u8], selection: &[u8], taken: &mut [u8]) -> PhfBounded
+    ensures { λ r. ⌜ r ≡ boundedFields (answer (selectionCauses (now (file .entry)) (now (selection .entry)) (now (taken .entry))) (boundOf (familyOf (now (file .entry))) (now (selection .entry)) ∷ [])) ⌝ }
+    ensures { λ _. ⌜ now (taken .exit) ≡ written (selectionCauses (now (file .entry)) (now (selection .entry)) (now (taken .entry))) (takenOf (familyOf (now (file .entry))) (now (selection .entry))) (now (taken .entry)) ⌝ }
+{
+    match bounds::bound(file, selection, taken) {
+        Bounded::Bound(bound) => PhfBounded { number: 0, bound },
+        Bounded::Refused(number) => PhfBounded { number, bound: 0 },
+    }
+}
+
+// The curve along a path and its marks.
+#[no_mangle]
+pub extern "C" fn phf_curve(
+    file: &[u8],
+    path: &[u16],
+    values: &mut [u16],
+    marks: &mut [u8],
+) -> PhfCurved
+    ensures { λ r. ⌜ CurveAnswer (curveCauses (now (file .entry)) (now (path .entry)) (now (values .entry)) (now (marks .entry))) (now (path .entry)) r ⌝ }
+    ensures { λ _. ⌜ now (values .exit) ≡ written (curveCauses (now (file .entry)) (now (path .entry)) (now (values .entry)) (now (marks .entry))) (curveValues (familyOf (now (file .entry))) (now (path .entry))) (now (values .entry)) ⌝ }
+    ensures { λ _. ⌜ now (marks .exit) ≡ written (curveCauses (now (file .entry)) (now (path .entry)) (now (values .entry)) (now (marks .entry))) (curveMarks (familyOf (now (file .entry))) (now (path .entry))) (now (marks .entry)) ⌝ }
+{
+    match bounds::curve(file, path, values, marks) {
+        Curved::Written => PhfCurved {
+            number: 0,
+            place: 0,
+        },
+        Curved::Refused(number) => PhfCurved { number, place: 0 },
+        Curved::Repeated(place) => PhfCurved { number: 13, place },
+    }
+}
+
+// The cut at q = a / b: the largest t at which entry t times b is at most a times t.
+#[no_mangle]
+pub extern "C" fn phf_cut(file: &[u8], path: &[u16], a: u16, b: u16) -> PhfCutting
+    ensures { λ r. ⌜ CutAnswer (cutCauses (now (file .entry)) (now (path .entry)) a b) (now (path .entry)) (cutOf (familyOf (now (file .entry))) (now (path .entry)) a b) r ⌝ }
+{
+    match bounds::cut(file, path, a, b) {
+        CutFound::At(cut) => PhfCutting {
+            number: 0,
+            place: 0,
+            cut,
+        },
+        CutFound::Refused(number) => PhfCutting {
+            number,
+            place: 0,
+            cut: 0,
+        },
+        CutFound::Repeated(place) => PhfCutting {
+            number: 13,
+            place,
+            cut: 0,
+        },
+    }
+}
+
+// Writes the reduced file at the start of the output: its length and number of regions.
+#[no_mangle]
+pub extern "C" fn phf_reduce(file: &[u8], out: &mut [u8]) -> PhfReduced
+    ensures { λ r. ⌜ r ≡ reducedFields (answer (reduceCauses (now (file .entry)) (now (out .entry))) (reducedCounts (now (file .entry)))) ⌝ }
+    ensures { λ _. ⌜ now (out .exit) ≡ written (reduceCauses (now (file .entry)) (now (out .entry))) (reducedFile (now (file .entry))) (now (out .entry)) ⌝ }
+{
+    match reduction::reduce(file, out) {
+        ReducedFile::Written { length, regions } => PhfReduced {
+            number: 0,
+            length,
+            regions,
+        },
+        ReducedFile::Refused(number) => PhfReduced {
+            number,
+            length: 0,
+            regions: 0,
+        },
+    }
+}
+
+// Whether two families reduce to the same file: 1 for yes, 0 for no.
+#[no_mangle]
+pub extern "C" fn phf_same(first: &[u8], second: &[u8]) -> PhfCompared
+    ensures { λ r. ⌜ r ≡ comparedFields (answer (compareCauses (now (first .entry)) (now (second .entry))) (comparison (now (first .entry)) (now (second .entry)))) ⌝ }
+{
+    match reduction::same(first, second) {
+        Compared::Same => PhfCompared { number: 0, same: 1 },
+        Compared::Different => PhfCompared { number: 0, same: 0 },
+        Compared::Refused(number) => PhfCompared { number, same: 0 },
+    }
+}

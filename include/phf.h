@@ -1,0 +1,158 @@
+/*
+ * phf.h - bounds on false peptides over nested regions: curves and reduced families.
+ *
+ * A family says, for each of a number of nested or disjoint regions of peptides, that at most z of the region's
+ * peptides are false. These calls check such a family, tell how many of a selection of peptides can be false at most,
+ * draw that number along a ranking, cut the ranking at a wanted fraction, bring a family into its shortest form, and
+ * compare two families.
+ *
+ * Every function here is proved: for all inputs, well formed or not, it returns and writes what is said below.
+ * What the proofs take for granted is the usual contract of C:
+ *   - a buffer is a pointer and a number of elements (not bytes): the elements are there, and aligned;
+ *   - a buffer that is written overlaps no other buffer of the same call;
+ *   - a buffer with 0 elements is not looked at, and its pointer may be anything, NULL included.
+ *
+ * No function keeps anything from one call to the next, allocates, or fails otherwise than by the number it returns.
+ * All may be called from several threads at once. They need up to 512 KB of stack.
+ *
+ * THE NUMBER. Each answer has a field `number`: 0 if the call did its work, else the number of the first cause below
+ * that holds. A declined call writes to no buffer. Fields of an answer that have no value are 0.
+ *
+ *    1  the file has under 16 bytes, or does not begin with the bytes 50 48 46 42 (hexadecimal), "PHFB"
+ *    2  m, the number of peptides, is 0 or over 4096
+ *    3  N, the number of leaves, is 0 or over m
+ *    4  K, the number of regions, is over 2N - 1
+ *    5  an offset or the total in the file is not as laid down, or the file's length is not the total
+ *    6  a leaf length is 0, or the lengths do not add to m
+ *    7  a region's first leaf is 0, or its last below its first, or over N
+ *    8  a region does not stand after the one before it (first leaf rising; where equal, last leaf falling)
+ *    9  two regions share a leaf, neither inside the other
+ *   10  a region has more than 63 regions around it
+ *   11  the path is longer than m
+ *   12  a number of the path is 0 or over m
+ *   13  a peptide stands twice in the path; `place` is where (counted from 1) one stands that stood earlier too
+ *   14  the selection is not m bytes, or has a byte over 1
+ *   15  b is 0, or a is over b
+ *   16  an output is shorter than needed
+ *
+ * THE FILE. All numbers have 2 bytes, low byte first. From offset 0: the mark "PHFB", m, N, K, the offset of the leaf
+ * lengths (16), the offset of the regions (16 + 2N), the total length (16 + 2N + 6K); then N leaf lengths; then K
+ * regions, each first leaf, last leaf, z. Peptides are numbered from 1 to m, leaves from 1 to N; they are different
+ * things. A region has all peptides of its leaves.
+ */
+#ifndef PHF_H
+#define PHF_H
+
+#include <stddef.h>
+#include <stdint.h>
+
+#ifdef __cplusplus
+extern "C" {
+#endif
+
+/* The largest sizes: peptides, regions, and bytes of a family file. */
+#define PHF_MOST_PEPTIDES 4096
+#define PHF_MOST_REGIONS 8191
+#define PHF_MOST_BYTES 57354
+
+/*
+ * Is this an accepted family? Causes 1 to 10. If so, how many peptides (m), leaves (N) and regions (K) it has.
+ */
+typedef struct phf_checked {
+    uint16_t number;
+    uint16_t peptides;
+    uint16_t leaves;
+    uint16_t regions;
+} phf_checked;
+
+phf_checked phf_check(const uint8_t *file, size_t file_len);
+
+/*
+ * Where the regions stand in an accepted file: `length` bytes from `offset` on, 6 for each region. Both are 0 for a file
+ * that phf_check refuses; `length` is 0 for a family without regions.
+ */
+typedef struct phf_part {
+    uint32_t offset;
+    uint32_t length;
+} phf_part;
+
+phf_part phf_regions(const uint8_t *file, size_t file_len);
+
+/*
+ * How many of the selected peptides can be false at most: `bound` is the largest count of selected peptides in any set
+ * that has at most z peptides in each region. Causes 1 to 10, 14, 16.
+ *
+ * selection: m bytes, byte i is 1 if peptide i + 1 is selected, else 0.
+ * taken:     at least K bytes; the first K become 1 for a region that is taken, else 0, in the order of the file. The z
+ *            of the taken regions and the selected peptides outside of them add up to the bound.
+ */
+typedef struct phf_bounded {
+    uint16_t number;
+    uint16_t bound;
+} phf_bounded;
+
+phf_bounded phf_bound(const uint8_t *file, size_t file_len,
+                      const uint8_t *selection, size_t selection_len,
+                      uint8_t *taken, size_t taken_len);
+
+/*
+ * The curve along a ranking. path is T different peptide numbers, T from 0 to m. Causes 1 to 13, 16.
+ *
+ * values: at least T + 1 numbers; values[t] becomes the bound of the first t peptides of the path, for t from 0 to T.
+ * marks:  at least T bytes; marks[t - 1] becomes 1 if values[t] is one more than values[t - 1], else 0.
+ */
+typedef struct phf_curved {
+    uint16_t number;
+    uint16_t place;
+} phf_curved;
+
+phf_curved phf_curve(const uint8_t *file, size_t file_len,
+                     const uint16_t *path, size_t path_len,
+                     uint16_t *values, size_t values_len,
+                     uint8_t *marks, size_t marks_len);
+
+/*
+ * How far down the ranking the fraction of false peptides stays at most a / b: `cut` is the largest t, 0 included, at
+ * which values[t] * b <= a * t. It may lie behind places where that does not hold. Causes 1 to 13, 15.
+ */
+typedef struct phf_cutting {
+    uint16_t number;
+    uint16_t place;
+    uint16_t cut;
+} phf_cutting;
+
+phf_cutting phf_cut(const uint8_t *file, size_t file_len,
+                    const uint16_t *path, size_t path_len,
+                    uint16_t a, uint16_t b);
+
+/*
+ * The reduced file of a family: the one file, of all families with the same bounds for every selection, that they all
+ * reduce to. Causes 1 to 10, 16.
+ *
+ * out: at least as long as the family file. The reduced file is its first `length` bytes and has `regions` regions.
+ */
+typedef struct phf_reduced {
+    uint16_t number;
+    uint16_t length;
+    uint16_t regions;
+} phf_reduced;
+
+phf_reduced phf_reduce(const uint8_t *file, size_t file_len, uint8_t *out, size_t out_len);
+
+/*
+ * Do two families give the same bounds? `same` is 1 exactly when their reduced files are equal, else 0; families with a
+ * different number of peptides are not the same. Causes 1 to 10 of the first file, then those of the second, whose
+ * numbers have 100 added (101 to 110).
+ */
+typedef struct phf_compared {
+    uint16_t number;
+    uint16_t same;
+} phf_compared;
+
+phf_compared phf_same(const uint8_t *first, size_t first_len, const uint8_t *second, size_t second_len);
+
+#ifdef __cplusplus
+}
+#endif
+
+#endif

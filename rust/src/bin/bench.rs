@@ -1,0 +1,449 @@
+//! The library and the same algorithms in Rust, measured side by side: one after the other on the same input, in turns, in
+//! one run. Prints the tables of docs/PERFORMANCE.md. Before anything is measured the two must answer the same.
+
+use phf_tests::families::{binary_tree, chain, eight_peptides, family, towers, Bounds};
+use phf_tests::random::Random;
+use phf_tests::reference::{file_of, Family, Region};
+use phf_tests::{fast, phf};
+use std::hint::black_box;
+use std::time::{Duration, Instant};
+
+/// Every measurement takes the best of this many turns: what disturbs a turn only makes it longer.
+const TURNS: usize = 15;
+/// A turn repeats the call until it has taken about so long.
+const TURN: Duration = Duration::from_millis(4);
+
+struct Input {
+    name: String,
+    file: Vec<u8>,
+    path: Vec<u16>,
+    selection: Vec<u8>,
+}
+
+impl Input {
+    fn new(name: &str, family: &Family, path: Vec<u16>) -> Input {
+        let m = family.peptides as usize;
+        let selection = Random::new(7).selection(m, 1, 2);
+        Input {
+            name: name.to_string(),
+            file: file_of(family),
+            path,
+            selection,
+        }
+    }
+
+    fn regions(&self) -> usize {
+        u16::from_le_bytes([self.file[8], self.file[9]]) as usize
+    }
+}
+
+fn repeats(call: &mut dyn FnMut()) -> usize {
+    let start = Instant::now();
+    let mut times = 0;
+    while start.elapsed() < TURN {
+        call();
+        times += 1;
+    }
+    times
+}
+
+fn turn(call: &mut dyn FnMut(), times: usize) -> f64 {
+    let start = Instant::now();
+    for _ in 0..times {
+        call();
+    }
+    start.elapsed().as_nanos() as f64 / times as f64
+}
+
+/// Nanoseconds for each of the calls, measured in turns.
+fn measure(calls: &mut [&mut dyn FnMut()]) -> Vec<f64> {
+    let times: Vec<usize> = calls.iter_mut().map(|call| repeats(*call)).collect();
+    let mut best = vec![f64::INFINITY; calls.len()];
+    for _ in 0..TURNS {
+        for (i, call) in calls.iter_mut().enumerate() {
+            best[i] = best[i].min(turn(*call, times[i]));
+        }
+    }
+    best
+}
+
+/// Places for every output.
+struct Room {
+    values: Vec<u16>,
+    marks: Vec<u8>,
+    bytes: Vec<u8>,
+}
+
+impl Room {
+    fn new() -> Room {
+        Room {
+            values: vec![0; 4097],
+            marks: vec![0; 4096],
+            bytes: vec![0; 57_354],
+        }
+    }
+}
+
+type Call = fn(&Input, &mut Room);
+
+/// A call of the library and its like in Rust.
+struct Pair {
+    name: &'static str,
+    library: Call,
+    rust: Call,
+}
+
+const PAIRS: [Pair; 6] = [
+    Pair {
+        name: "check",
+        library: |i, _| {
+            black_box(phf::check(&i.file));
+        },
+        rust: |i, _| {
+            black_box(fast::check(&i.file));
+        },
+    },
+    Pair {
+        name: "bound",
+        library: |i, room| {
+            black_box(phf::bound(&i.file, &i.selection, &mut room.bytes));
+        },
+        rust: |i, room| {
+            black_box(fast::bound(&i.file, &i.selection, &mut room.bytes));
+        },
+    },
+    Pair {
+        name: "curve",
+        library: |i, room| {
+            black_box(phf::curve(
+                &i.file,
+                &i.path,
+                &mut room.values,
+                &mut room.marks,
+            ));
+        },
+        rust: |i, room| {
+            black_box(fast::curve(
+                &i.file,
+                &i.path,
+                &mut room.values,
+                &mut room.marks,
+            ));
+        },
+    },
+    Pair {
+        name: "cut",
+        library: |i, _| {
+            black_box(phf::cut(&i.file, &i.path, 1, 10));
+        },
+        rust: |i, _| {
+            black_box(fast::cut(&i.file, &i.path, 1, 10));
+        },
+    },
+    Pair {
+        name: "reduce",
+        library: |i, room| {
+            black_box(phf::reduce(&i.file, &mut room.bytes));
+        },
+        rust: |i, room| {
+            black_box(fast::reduce(&i.file, &mut room.bytes));
+        },
+    },
+    Pair {
+        name: "same",
+        library: |i, _| {
+            black_box(phf::same(&i.file, &i.file));
+        },
+        rust: |i, _| {
+            black_box(fast::same(&i.file, &i.file));
+        },
+    },
+];
+
+/// Both answer the same on this input.
+fn agree(input: &Input) {
+    assert_eq!(phf::check(&input.file), fast::check(&input.file));
+    let mut one = Room::new();
+    let mut other = Room::new();
+    assert_eq!(
+        phf::bound(&input.file, &input.selection, &mut one.bytes),
+        fast::bound(&input.file, &input.selection, &mut other.bytes)
+    );
+    assert_eq!(
+        phf::curve(&input.file, &input.path, &mut one.values, &mut one.marks),
+        fast::curve(
+            &input.file,
+            &input.path,
+            &mut other.values,
+            &mut other.marks
+        )
+    );
+    assert_eq!(
+        phf::cut(&input.file, &input.path, 1, 10),
+        fast::cut(&input.file, &input.path, 1, 10)
+    );
+    assert_eq!((&one.values, &one.marks), (&other.values, &other.marks));
+    assert_eq!(one.bytes, other.bytes);
+    assert_eq!(
+        phf::reduce(&input.file, &mut one.bytes),
+        fast::reduce(&input.file, &mut other.bytes)
+    );
+    assert_eq!(one.bytes, other.bytes);
+    assert_eq!(
+        phf::same(&input.file, &input.file),
+        fast::same(&input.file, &input.file)
+    );
+}
+
+fn micro(nanoseconds: f64) -> String {
+    format!("{:.2}", nanoseconds / 1000.0)
+}
+
+fn both(pair: &Pair, input: &Input) -> (f64, f64) {
+    let mut room = Room::new();
+    let mut other = Room::new();
+    let found = measure(&mut [&mut || (pair.library)(input, &mut room), &mut || {
+        (pair.rust)(input, &mut other)
+    }]);
+    (found[0], found[1])
+}
+
+fn inputs() -> Vec<Input> {
+    let random = &mut Random::new(1);
+    let down: Vec<u16> = (1..=4096).rev().collect();
+    let up: Vec<u16> = (1..=4096).collect();
+    let source = binary_tree(random, 512, 8, Bounds::Mixed);
+    let largest = binary_tree(random, 4096, 1, Bounds::Mixed);
+    let mut loose = towers(random, 4096, 64, Bounds::Mixed);
+    for region in &mut loose.regions {
+        region.z = 65535;
+    }
+    vec![
+        Input::new(
+            "course, m = 8",
+            &eight_peptides(),
+            vec![7, 3, 1, 4, 6, 2, 5, 8],
+        ),
+        Input::new("source, path 1 2 3 ..", &source, up),
+        Input::new("source, random path", &source, random.order(4096)),
+        Input::new("largest, random path", &largest, random.order(4096)),
+        Input::new("largest, from the end", &largest, down.clone()),
+        Input::new("towers of 64, none full", &loose, down.clone()),
+        Input::new(
+            "one tower of 64 over all",
+            &chain(4096, 64, 65535),
+            down.clone(),
+        ),
+        Input::new("4,096 leaves, no region", &family(&[1; 4096], &[]), down),
+    ]
+}
+
+fn calls_table() -> bool {
+    println!("| input | T | K | call | library µs | Rust µs | ratio |");
+    println!("|---|---|---|---|---|---|---|");
+    let mut all_met = true;
+    for input in inputs() {
+        agree(&input);
+        for pair in &PAIRS {
+            let (library, rust) = both(pair, &input);
+            let ratio = library / rust;
+            all_met &= ratio <= 1.5;
+            println!(
+                "| {} | {} | {} | {} | {} | {} | {:.2}{} |",
+                input.name,
+                input.path.len(),
+                input.regions(),
+                pair.name,
+                micro(library),
+                micro(rust),
+                ratio,
+                if ratio <= 1.5 { "" } else { " over 1.5" }
+            );
+        }
+    }
+    all_met
+}
+
+/// The curve of the source's experiment, for each step of the path.
+fn source_table() {
+    println!(
+        "| leaves of | path | library ns per step | Rust, the same walk | Rust, table of leaves |"
+    );
+    println!("|---|---|---|---|---|");
+    let random = &mut Random::new(2);
+    for length in [2, 8] {
+        let family = binary_tree(random, 512, length, Bounds::Mixed);
+        let m = family.peptides as usize;
+        let paths = [
+            ("1 2 3 ..", (1..=m as u16).collect()),
+            ("random", random.order(m)),
+        ];
+        for (name, path) in paths {
+            let input = Input::new(name, &family, path);
+            let mut rooms = [Room::new(), Room::new(), Room::new()];
+            let [one, two, three] = &mut rooms;
+            let found = measure(&mut [
+                &mut || (PAIRS[2].library)(&input, one),
+                &mut || (PAIRS[2].rust)(&input, two),
+                &mut || {
+                    fast::curve_with_table(
+                        black_box(&input.file),
+                        &input.path,
+                        &mut three.values,
+                        &mut three.marks,
+                    )
+                },
+            ]);
+            assert_eq!(rooms[0].values, rooms[2].values);
+            println!(
+                "| {length} | {name} | {:.0} | {:.0} | {:.0} |",
+                found[0] / m as f64,
+                found[1] / m as f64,
+                found[2] / m as f64
+            );
+        }
+    }
+}
+
+/// Files made to keep the check busy.
+fn hostile_files() -> Vec<(&'static str, Vec<u8>)> {
+    let random = &mut Random::new(3);
+    let largest = binary_tree(random, 4096, 1, Bounds::Mixed);
+    let mut crossing = largest.clone();
+    // one of the last regions reaches into its neighbour
+    for region in &mut crossing.regions {
+        if (region.first, region.last) == (4093, 4094) {
+            region.last = 4095;
+        }
+    }
+    let mut steps = family(&[1; 4096], &[]);
+    for first in 1..=4096u16 {
+        // towers that are left at one go: the climb from the innermost is as long as can be
+        let tower = (first - 1) / 64;
+        steps.regions.push(Region {
+            first,
+            last: 64 * (tower + 1),
+            z: 1,
+        });
+    }
+    // the last tower has one region too many
+    let mut too_deep = family(&[1; 4096], &[]);
+    too_deep.regions = steps.regions[..3968].to_vec();
+    too_deep.regions.extend((3969..=4033).map(|first| Region {
+        first,
+        last: 4033,
+        z: 1,
+    }));
+    vec![
+        ("largest, accepted", file_of(&largest)),
+        ("largest, the last regions cross", file_of(&crossing)),
+        ("towers of 64", file_of(&steps)),
+        ("towers, the last too deep", file_of(&too_deep)),
+        ("4,096 nested", file_of(&chain(4096, 4096, 1))),
+        ("57,355 zeros behind a header", {
+            let mut file = file_of(&largest);
+            file[16..].fill(0);
+            file
+        }),
+        ("1,000,000 bytes", {
+            let mut file = file_of(&largest);
+            file.resize(1_000_000, 0);
+            file
+        }),
+    ]
+}
+
+fn check_table() -> f64 {
+    println!("| file | number | library µs | Rust µs | ratio |");
+    println!("|---|---|---|---|---|");
+    let mut worst = 0f64;
+    for (name, file) in hostile_files() {
+        let number = phf::check(&file).number;
+        assert_eq!(phf::check(&file), fast::check(&file));
+        let found = measure(&mut [
+            &mut || {
+                black_box(phf::check(black_box(&file)));
+            },
+            &mut || {
+                black_box(fast::check(black_box(&file)));
+            },
+        ]);
+        worst = worst.max(found[0]);
+        println!(
+            "| {name} | {number} | {} | {} | {:.2} |",
+            micro(found[0]),
+            micro(found[1]),
+            found[0] / found[1]
+        );
+    }
+    worst
+}
+
+/// How the times grow with one size while the others stay.
+fn growth_table() {
+    println!("| grows | value | check µs | bound µs | curve µs | cut µs | reduce µs | same µs |");
+    println!("|---|---|---|---|---|---|---|---|");
+    let random = &mut Random::new(4);
+    let down = |t: usize| -> Vec<u16> { (1..=4096).rev().take(t).collect() };
+    let mut rows: Vec<(&str, usize, Input)> = Vec::new();
+    let largest = binary_tree(random, 4096, 1, Bounds::Mixed);
+    for k in [0, 1023, 2047, 4095, 8191] {
+        // the first k regions of the largest tree
+        let mut fewer = largest.clone();
+        fewer.regions.truncate(k);
+        rows.push((
+            "K (N = T = 4,096)",
+            k,
+            Input::new("", &fewer, random.order(4096)),
+        ));
+    }
+    for depth in [1, 4, 16, 64] {
+        let mut family = towers(random, 4096, depth, Bounds::Mixed);
+        for region in &mut family.regions {
+            region.z = 65535;
+        }
+        rows.push((
+            "depth (K = N = T = 4,096)",
+            depth,
+            Input::new("", &family, down(4096)),
+        ));
+    }
+    for t in [0, 512, 1024, 2048, 4096] {
+        rows.push((
+            "T (N = 4,096, K = 8,191)",
+            t,
+            Input::new("", &largest, down(t)),
+        ));
+    }
+    for n in [1, 64, 512, 1024, 2048, 4096] {
+        let family = binary_tree(random, n, 4096 / n, Bounds::Mixed);
+        rows.push((
+            "N (T = 4,096, K = 2N − 1)",
+            n,
+            Input::new("", &family, down(4096)),
+        ));
+    }
+    for (grows, value, input) in rows {
+        agree(&input);
+        let times: Vec<String> = PAIRS
+            .iter()
+            .map(|pair| micro(both(pair, &input).0))
+            .collect();
+        println!("| {grows} | {value} | {} |", times.join(" | "));
+    }
+}
+
+fn main() {
+    println!("### Calls\n");
+    let met = calls_table();
+    println!("\n### The experiment of the source: 512 leaves, 1,023 regions\n");
+    source_table();
+    println!("\n### Hostile files\n");
+    let worst = check_table();
+    println!("\n### Growth\n");
+    growth_table();
+    println!(
+        "\nNo call over 1.5 times the Rust one: {met}. Worst check: {} µs.",
+        micro(worst)
+    );
+}

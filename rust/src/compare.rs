@@ -1,0 +1,177 @@
+//! Each call of the library held to the reference: the answer, every lent byte afterwards, and the sentinels around it.
+
+use crate::buffers::Lent;
+use crate::phf;
+use crate::reference;
+
+/// What the lent places hold before a call: something different at each place, and nothing that a call would write.
+fn before_u8(room: usize) -> Vec<u8> {
+    (0..room).map(|i| 100 + (i % 100) as u8).collect()
+}
+
+fn before_u16(room: usize) -> Vec<u16> {
+    (0..room).map(|i| 50_000 + (i % 10_000) as u16).collect()
+}
+
+/// The new elements at the start, and what was there behind them.
+fn with_front<T: Copy>(new: &[T], old: &[T]) -> Vec<T> {
+    let mut all = new.to_vec();
+    all.extend_from_slice(&old[new.len()..]);
+    all
+}
+
+/// The check and the place of the regions; the number.
+pub fn check(file: &[u8]) -> u16 {
+    let lent = Lent::new(file, 0xA5);
+    let answer = phf::check(lent.contents());
+    let part = phf::regions(lent.contents());
+    match reference::check(file) {
+        Ok(family) => {
+            let expected = phf::Checked {
+                number: 0,
+                peptides: family.peptides,
+                leaves: family.lengths.len() as u16,
+                regions: family.regions.len() as u16,
+            };
+            assert_eq!(answer, expected);
+            let offset = 16 + 2 * family.lengths.len();
+            assert_eq!(part.offset as usize, offset);
+            assert_eq!(part.length as usize, file.len() - offset);
+        }
+        Err(number) => {
+            let expected = phf::Checked {
+                number,
+                peptides: 0,
+                leaves: 0,
+                regions: 0,
+            };
+            assert_eq!(answer, expected);
+            assert_eq!(
+                part,
+                phf::Part {
+                    offset: 0,
+                    length: 0
+                }
+            );
+        }
+    }
+    assert_eq!(lent.returned(), file, "the file was written");
+    answer.number
+}
+
+/// The bound with `room` places for taken bytes; the number.
+pub fn bound(file: &[u8], selection: &[u8], room: usize) -> u16 {
+    let before = before_u8(room);
+    let mut taken = Lent::new(&before, 0x5A);
+    let answer = phf::bound(file, selection, taken.contents_mut());
+    match reference::bound(file, selection, room) {
+        Ok((value, bytes)) => {
+            let expected = phf::Bounded {
+                number: 0,
+                bound: value,
+            };
+            assert_eq!(answer, expected);
+            assert_eq!(taken.returned(), with_front(&bytes, &before));
+        }
+        Err(number) => {
+            assert_eq!(answer, phf::Bounded { number, bound: 0 });
+            assert_eq!(taken.returned(), before);
+        }
+    }
+    answer.number
+}
+
+/// The curve with so many places for values and marks; the number.
+pub fn curve(file: &[u8], path: &[u16], values_room: usize, marks_room: usize) -> u16 {
+    let values_before = before_u16(values_room);
+    let marks_before = before_u8(marks_room);
+    let mut values = Lent::new(&values_before, 0xABCD);
+    let mut marks = Lent::new(&marks_before, 0x5A);
+    let answer = phf::curve(file, path, values.contents_mut(), marks.contents_mut());
+    match reference::curve(file, path, values_room, marks_room) {
+        Ok((entries, marked)) => {
+            assert_eq!((answer.number, answer.place), (0, 0));
+            assert_eq!(values.returned(), with_front(&entries, &values_before));
+            assert_eq!(marks.returned(), with_front(&marked, &marks_before));
+        }
+        Err(refusal) => {
+            declined(&refusal, answer.number, answer.place);
+            assert_eq!(values.returned(), values_before);
+            assert_eq!(marks.returned(), marks_before);
+        }
+    }
+    answer.number
+}
+
+/// The cut; the number.
+pub fn cut(file: &[u8], path: &[u16], a: u16, b: u16) -> u16 {
+    let answer = phf::cut(file, path, a, b);
+    match reference::cut(file, path, a, b) {
+        Ok(cut) => {
+            let expected = phf::Cutting {
+                number: 0,
+                place: 0,
+                cut,
+            };
+            assert_eq!(answer, expected);
+        }
+        Err(refusal) => {
+            declined(&refusal, answer.number, answer.place);
+            assert_eq!(answer.cut, 0);
+        }
+    }
+    answer.number
+}
+
+/// The number, and with 13 one of the places that repeat, else no place.
+fn declined(refusal: &reference::Refusal, number: u16, place: u16) {
+    assert_eq!(number, refusal.number);
+    if number == 13 {
+        assert!(
+            refusal.places.contains(&place),
+            "place {place} is not one of {:?}",
+            refusal.places
+        );
+    } else {
+        assert_eq!(place, 0);
+    }
+}
+
+/// The reduction into `room` places; the number.
+pub fn reduce(file: &[u8], room: usize) -> u16 {
+    let before = before_u8(room);
+    let mut out = Lent::new(&before, 0x5A);
+    let answer = phf::reduce(file, out.contents_mut());
+    match reference::reduce(file, room) {
+        Ok(family) => {
+            let reduced = reference::file_of(&family);
+            let expected = phf::Reduced {
+                number: 0,
+                length: reduced.len() as u16,
+                regions: family.regions.len() as u16,
+            };
+            assert_eq!(answer, expected);
+            assert_eq!(out.returned(), with_front(&reduced, &before));
+        }
+        Err(number) => {
+            let expected = phf::Reduced {
+                number,
+                length: 0,
+                regions: 0,
+            };
+            assert_eq!(answer, expected);
+            assert_eq!(out.returned(), before);
+        }
+    }
+    answer.number
+}
+
+/// The comparison; the number and whether they are the same.
+pub fn same(first: &[u8], second: &[u8]) -> (u16, u16) {
+    let answer = phf::same(first, second);
+    match reference::same(first, second) {
+        Ok(same) => assert_eq!((answer.number, answer.same), (0, same as u16)),
+        Err(number) => assert_eq!((answer.number, answer.same), (number, 0)),
+    }
+    (answer.number, answer.same)
+}

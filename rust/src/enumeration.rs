@@ -1,0 +1,51 @@
+//! Every set of peptides of a small family: what a bound means, with no recursion over regions.
+
+use crate::reference::{pieces, Family};
+
+/// The admissible sets, each as a number whose bit p - 1 says whether peptide p is in it.
+pub struct Admissible {
+    sets: Vec<u32>,
+}
+
+pub fn mask(low: usize, high: usize) -> u32 {
+    (low..=high).map(|p| 1u32 << (p - 1)).sum()
+}
+
+impl Admissible {
+    /// All sets with at most z peptides in each region. At most 20 peptides.
+    pub fn of(family: &Family) -> Admissible {
+        let m = family.peptides as usize;
+        assert!(m <= 20);
+        let regions: Vec<(u32, u32)> = pieces(family)
+            .iter()
+            .map(|r| (mask(r.low, r.high), r.z as u32))
+            .collect();
+        let sets = (0..1u32 << m)
+            .filter(|set| regions.iter().all(|(r, z)| (set & r).count_ones() <= *z))
+            .collect();
+        Admissible { sets }
+    }
+
+    pub fn has(&self, set: u32) -> bool {
+        self.sets.binary_search(&set).is_ok()
+    }
+
+    /// The largest count of the selection in any admissible set.
+    pub fn bound(&self, selection: u32) -> u16 {
+        self.sets
+            .iter()
+            .map(|set| (set & selection).count_ones())
+            .max()
+            .unwrap() as u16
+    }
+
+    /// The bound of every selection, by its number.
+    pub fn all_bounds(&self, m: usize) -> Vec<u16> {
+        (0..1u32 << m).map(|s| self.bound(s)).collect()
+    }
+}
+
+/// The selection's bytes.
+pub fn bytes_of(selection: u32, m: usize) -> Vec<u8> {
+    (0..m).map(|i| (selection >> i & 1) as u8).collect()
+}

@@ -1,0 +1,379 @@
+//! Families to test with: random ones, the extreme ones, and files broken at one place.
+
+use crate::random::Random;
+use crate::reference::{file_of, Family, Region};
+
+/// n lengths of at least 1 that add to m.
+fn lengths(random: &mut Random, m: usize, n: usize) -> Vec<u16> {
+    let mut ends: Vec<usize> = random.order(m - 1)[..n - 1]
+        .iter()
+        .map(|end| *end as usize)
+        .collect();
+    ends.sort();
+    ends.push(m);
+    let mut before = 0;
+    ends.iter()
+        .map(|end| {
+            let length = end - before;
+            before = *end;
+            length as u16
+        })
+        .collect()
+}
+
+/// How the z of a region is chosen.
+#[derive(Clone, Copy)]
+pub enum Bounds {
+    /// 0, or up to half of the region, or about its size, or far more
+    Mixed,
+    /// 0 often
+    ManyDead,
+    /// from 1 to a few
+    Small,
+}
+
+fn bound(random: &mut Random, bounds: Bounds, size: usize) -> u16 {
+    let z = match bounds {
+        Bounds::Mixed => match random.below(10) {
+            0 => 0,
+            1..=5 => random.below(size / 2 + 2),
+            6..=8 => random.between(size.saturating_sub(2), size + 2),
+            _ => random.between(0, 65535),
+        },
+        Bounds::ManyDead => random.below(size + 1) * random.below(3),
+        Bounds::Small => random.between(1, 3),
+    };
+    z.min(65535) as u16
+}
+
+/// Nested leaf ranges inside first to last, in file order.
+fn nest(
+    random: &mut Random,
+    first: usize,
+    last: usize,
+    depth: usize,
+    full: bool,
+    out: &mut Vec<(usize, usize)>,
+) {
+    let mut deeper = depth;
+    if depth < 64 && (full || random.chance(7, 10)) {
+        out.push((first, last));
+        deeper += 1;
+    }
+    if first == last {
+        return;
+    }
+    if !full && random.chance(1, 6) {
+        // one range that leaves a little free at one end or at both
+        let inner = random.between(first, (first + 2).min(last - 1));
+        let inner_last = random.between(inner, last);
+        if (inner, inner_last) != (first, last) {
+            nest(random, inner, inner_last, deeper, full, out);
+        }
+        return;
+    }
+    // two parts, anywhere or in the middle
+    let middle = if random.chance(1, 3) {
+        random.between(first, last - 1)
+    } else {
+        (first + last) / 2
+    };
+    nest(random, first, middle, deeper, full, out);
+    nest(random, middle + 1, last, deeper, full, out);
+}
+
+fn with_bounds(
+    random: &mut Random,
+    lengths: Vec<u16>,
+    ranges: &[(usize, usize)],
+    bounds: Bounds,
+) -> Family {
+    let mut ends = vec![0usize];
+    for length in &lengths {
+        ends.push(ends[ends.len() - 1] + *length as usize);
+    }
+    let regions = ranges
+        .iter()
+        .map(|(first, last)| Region {
+            first: *first as u16,
+            last: *last as u16,
+            z: bound(random, bounds, ends[*last] - ends[*first - 1]),
+        })
+        .collect();
+    Family {
+        peptides: ends[ends.len() - 1] as u16,
+        lengths,
+        regions,
+    }
+}
+
+/// A random family with m peptides.
+pub fn random_family(random: &mut Random, m: usize) -> Family {
+    let n = match random.below(4) {
+        0 => m,
+        1 => random.between(1, m.min(8)),
+        _ => random.between(1, m),
+    };
+    let bounds = match random.below(3) {
+        0 => Bounds::ManyDead,
+        1 => Bounds::Small,
+        _ => Bounds::Mixed,
+    };
+    let lengths = lengths(random, m, n);
+    let mut ranges = Vec::new();
+    if !random.chance(1, 20) {
+        let full = random.chance(1, 5);
+        nest(random, 1, n, 0, full, &mut ranges);
+    }
+    with_bounds(random, lengths, &ranges, bounds)
+}
+
+/// n leaves of one length, and the binary tree with a region for each leaf and for each pair of neighbours: 2n - 1 regions.
+pub fn binary_tree(random: &mut Random, n: usize, length: usize, bounds: Bounds) -> Family {
+    fn halves(first: usize, last: usize, out: &mut Vec<(usize, usize)>) {
+        out.push((first, last));
+        if first < last {
+            let middle = (first + last) / 2;
+            halves(first, middle, out);
+            halves(middle + 1, last, out);
+        }
+    }
+    let mut ranges = Vec::new();
+    halves(1, n, &mut ranges);
+    with_bounds(random, vec![length as u16; n], &ranges, bounds)
+}
+
+/// Towers of nested regions, `depth` high, side by side on n leaves: each region leaves one leaf free.
+pub fn towers(random: &mut Random, n: usize, depth: usize, bounds: Bounds) -> Family {
+    let mut ranges = Vec::new();
+    let mut first = 1;
+    while first + depth - 1 <= n {
+        let last = first + depth - 1;
+        for inner in first..=last {
+            ranges.push((inner, last));
+        }
+        first = last + 1;
+    }
+    with_bounds(random, vec![1; n], &ranges, bounds)
+}
+
+/// `depth` regions nested in each other, from all of n leaves down.
+pub fn chain(n: usize, depth: usize, z: u16) -> Family {
+    let regions = (0..depth)
+        .map(|i| Region {
+            first: 1,
+            last: (n - i) as u16,
+            z,
+        })
+        .collect();
+    Family {
+        peptides: n as u16,
+        lengths: vec![1; n],
+        regions,
+    }
+}
+
+// Files broken at one place.
+
+fn put(file: &mut [u8], at: usize, number: usize) {
+    if at + 1 < file.len() {
+        file[at..at + 2].copy_from_slice(&(number as u16).to_le_bytes());
+    }
+}
+
+fn get(file: &[u8], at: usize) -> usize {
+    if at + 1 < file.len() {
+        u16::from_le_bytes([file[at], file[at + 1]]) as usize
+    } else {
+        0
+    }
+}
+
+/// Adds to a number of the file; it may wrap around.
+fn add(file: &mut [u8], at: usize, by: u16) {
+    let number = get(file, at) as u16;
+    put(file, at, number.wrapping_add(by) as usize);
+}
+
+/// How many kinds of damage `damage` knows.
+pub const DAMAGES: usize = 24;
+
+/// Damages a file near the edge of some cause. What comes of it the reference says: one damage can hide or undo another.
+pub fn damage(random: &mut Random, kind: usize, file: &mut Vec<u8>) {
+    let (m, n, k) = (get(file, 4), get(file, 6), get(file, 8));
+    let leaf = 16 + 2 * random.below(n.max(1));
+    let region = 16 + 2 * n + 6 * random.below(k.max(1));
+    match kind {
+        0 => file.truncate(random.below(17).min(file.len())),
+        1 => {
+            let at = random.below(4);
+            if at < file.len() {
+                file[at] ^= 1 << random.below(8);
+            }
+        }
+        2 => put(file, 4, [0, 4096, 4097, 65535][random.below(4)]),
+        3 => put(file, 6, [0, m, m + 1, 65535][random.below(4)]),
+        4 => put(file, 8, [2 * n - n.min(1), 2 * n, 65535][random.below(3)]),
+        5 => put(file, 10, [15, 17, 0, 16][random.below(4)]),
+        6 => put(file, 12, (16 + 2 * n + random.below(3)).saturating_sub(1)),
+        7 => put(
+            file,
+            14,
+            (16 + 2 * n + 6 * k + random.below(3)).saturating_sub(1),
+        ),
+        8 => {
+            file.pop();
+        }
+        9 => file.push(0),
+        10 => put(file, leaf, 0),
+        11 => add(file, leaf, 1),
+        12 => {
+            // the sum stays, unless both are the same leaf
+            let other = 16 + 2 * random.below(n.max(1));
+            add(file, leaf, 1);
+            add(file, other, u16::MAX);
+        }
+        13 => put(file, region, 0),
+        14 => {
+            let first = get(file, region);
+            put(file, region + 2, first.wrapping_sub(1));
+        }
+        15 => put(file, region + 2, n + random.below(2)),
+        16 if k >= 2 => {
+            // two regions next to each other change places
+            let at = 16 + 2 * n + 6 * random.below(k - 1);
+            if at + 12 <= file.len() {
+                let six: Vec<u8> = file[at..at + 6].to_vec();
+                file.copy_within(at + 6..at + 12, at);
+                file[at + 6..at + 12].copy_from_slice(&six);
+            }
+        }
+        17 if k >= 2 => {
+            // a region twice
+            let at = 16 + 2 * n + 6 * random.below(k - 1);
+            if at + 12 <= file.len() {
+                file.copy_within(at..at + 4, at + 6);
+            }
+        }
+        18 => add(file, region + 2, 1),
+        19 => add(file, region, 1),
+        20 => put(file, region + 4, random.below(65536)),
+        21 => {
+            let at = random.below(file.len().max(1));
+            if at < file.len() {
+                file[at] = random.below(256) as u8;
+            }
+        }
+        22 => put(file, leaf, 65535),
+        _ => file.clear(),
+    }
+}
+
+/// A family with the 8 peptides of the scope document.
+pub fn eight_peptides() -> Family {
+    family(
+        &[2, 3, 1, 2],
+        &[(1, 2, 3), (1, 1, 2), (2, 2, 1), (3, 4, 3), (4, 4, 0)],
+    )
+}
+
+/// A family from its leaf lengths and its regions.
+pub fn family(lengths: &[u16], regions: &[(u16, u16, u16)]) -> Family {
+    Family {
+        peptides: lengths.iter().sum(),
+        lengths: lengths.to_vec(),
+        regions: regions
+            .iter()
+            .map(|(first, last, z)| Region {
+                first: *first,
+                last: *last,
+                z: *z,
+            })
+            .collect(),
+    }
+}
+
+/// The file of a family from its leaf lengths and its regions.
+pub fn file(lengths: &[u16], regions: &[(u16, u16, u16)]) -> Vec<u8> {
+    file_of(&family(lengths, regions))
+}
+
+// Every family with m peptides and each z up to the region's size: a larger z says no more.
+
+/// The ways to cut m peptides into leaves.
+fn all_lengths(m: usize) -> Vec<Vec<u16>> {
+    (0..1usize << (m - 1))
+        .map(|cuts| {
+            let mut lengths = vec![1];
+            for i in 0..m - 1 {
+                if cuts >> i & 1 == 1 {
+                    lengths.push(1);
+                } else {
+                    *lengths.last_mut().unwrap() += 1;
+                }
+            }
+            lengths
+        })
+        .collect()
+}
+
+/// The sets of nested or disjoint leaf ranges on n leaves, each in file order.
+fn all_ranges(n: usize) -> Vec<Vec<(usize, usize)>> {
+    let mut possible = Vec::new();
+    for first in 1..=n {
+        for last in (first..=n).rev() {
+            possible.push((first, last));
+        }
+    }
+    let mut found = vec![Vec::new()];
+    for range in possible {
+        let fits = |other: &(usize, usize)| {
+            // `other` stands before `range` in file order, so only its end can cross
+            range.0 > other.1 || range.1 <= other.1
+        };
+        let more: Vec<Vec<(usize, usize)>> = found
+            .iter()
+            .filter(|ranges| ranges.iter().all(fits))
+            .map(|ranges| {
+                let mut longer = ranges.clone();
+                longer.push(range);
+                longer
+            })
+            .collect();
+        found.extend(more);
+    }
+    found
+}
+
+pub fn all_families(m: usize) -> Vec<Family> {
+    let mut families = Vec::new();
+    for lengths in all_lengths(m) {
+        for ranges in all_ranges(lengths.len()) {
+            let sizes: Vec<usize> = ranges
+                .iter()
+                .map(|(first, last)| {
+                    lengths[first - 1..*last]
+                        .iter()
+                        .map(|length| *length as usize)
+                        .sum()
+                })
+                .collect();
+            let mut zs = vec![0; ranges.len()];
+            loop {
+                let regions: Vec<(u16, u16, u16)> = ranges
+                    .iter()
+                    .zip(&zs)
+                    .map(|((first, last), z)| (*first as u16, *last as u16, *z as u16))
+                    .collect();
+                families.push(family(&lengths, &regions));
+                // the next choice of z, as a number whose digits go up to the sizes
+                let Some(i) = (0..zs.len()).find(|i| zs[*i] < sizes[*i]) else {
+                    break;
+                };
+                zs[i] += 1;
+                zs[..i].fill(0);
+            }
+        }
+    }
+    families
+}

@@ -1,0 +1,10 @@
+//! What the executed tests and the benchmarks of the C interface share.
+
+pub mod buffers;
+pub mod compare;
+pub mod enumeration;
+pub mod families;
+pub mod fast;
+pub mod phf;
+pub mod random;
+pub mod reference;

@@ -1,0 +1,143 @@
+//! The proved library, as include/phf.h declares it.
+
+#[repr(C)]
+#[derive(Clone, Copy, Debug, PartialEq, Eq)]
+pub struct Checked {
+    pub number: u16,
+    pub peptides: u16,
+    pub leaves: u16,
+    pub regions: u16,
+}
+
+#[repr(C)]
+#[derive(Clone, Copy, Debug, PartialEq, Eq)]
+pub struct Part {
+    pub offset: u32,
+    pub length: u32,
+}
+
+#[repr(C)]
+#[derive(Clone, Copy, Debug, PartialEq, Eq)]
+pub struct Bounded {
+    pub number: u16,
+    pub bound: u16,
+}
+
+#[repr(C)]
+#[derive(Clone, Copy, Debug, PartialEq, Eq)]
+pub struct Curved {
+    pub number: u16,
+    pub place: u16,
+}
+
+#[repr(C)]
+#[derive(Clone, Copy, Debug, PartialEq, Eq)]
+pub struct Cutting {
+    pub number: u16,
+    pub place: u16,
+    pub cut: u16,
+}
+
+#[repr(C)]
+#[derive(Clone, Copy, Debug, PartialEq, Eq)]
+pub struct Reduced {
+    pub number: u16,
+    pub length: u16,
+    pub regions: u16,
+}
+
+#[repr(C)]
+#[derive(Clone, Copy, Debug, PartialEq, Eq)]
+pub struct Compared {
+    pub number: u16,
+    pub same: u16,
+}
+
+extern "C" {
+    fn phf_check(file: *const u8, file_len: usize) -> Checked;
+    fn phf_regions(file: *const u8, file_len: usize) -> Part;
+    fn phf_bound(
+        file: *const u8,
+        file_len: usize,
+        selection: *const u8,
+        selection_len: usize,
+        taken: *mut u8,
+        taken_len: usize,
+    ) -> Bounded;
+    fn phf_curve(
+        file: *const u8,
+        file_len: usize,
+        path: *const u16,
+        path_len: usize,
+        values: *mut u16,
+        values_len: usize,
+        marks: *mut u8,
+        marks_len: usize,
+    ) -> Curved;
+    fn phf_cut(
+        file: *const u8,
+        file_len: usize,
+        path: *const u16,
+        path_len: usize,
+        a: u16,
+        b: u16,
+    ) -> Cutting;
+    fn phf_reduce(file: *const u8, file_len: usize, out: *mut u8, out_len: usize) -> Reduced;
+    fn phf_same(
+        first: *const u8,
+        first_len: usize,
+        second: *const u8,
+        second_len: usize,
+    ) -> Compared;
+}
+
+// SAFETY, of each call: a slice is a pointer and a number of elements that are there, and a `&mut` slice overlaps no
+// other. The library asks nothing else.
+
+pub fn check(file: &[u8]) -> Checked {
+    unsafe { phf_check(file.as_ptr(), file.len()) }
+}
+
+pub fn regions(file: &[u8]) -> Part {
+    unsafe { phf_regions(file.as_ptr(), file.len()) }
+}
+
+pub fn bound(file: &[u8], selection: &[u8], taken: &mut [u8]) -> Bounded {
+    unsafe {
+        phf_bound(
+            file.as_ptr(),
+            file.len(),
+            selection.as_ptr(),
+            selection.len(),
+            taken.as_mut_ptr(),
+            taken.len(),
+        )
+    }
+}
+
+pub fn curve(file: &[u8], path: &[u16], values: &mut [u16], marks: &mut [u8]) -> Curved {
+    unsafe {
+        phf_curve(
+            file.as_ptr(),
+            file.len(),
+            path.as_ptr(),
+            path.len(),
+            values.as_mut_ptr(),
+            values.len(),
+            marks.as_mut_ptr(),
+            marks.len(),
+        )
+    }
+}
+
+pub fn cut(file: &[u8], path: &[u16], a: u16, b: u16) -> Cutting {
+    unsafe { phf_cut(file.as_ptr(), file.len(), path.as_ptr(), path.len(), a, b) }
+}
+
+pub fn reduce(file: &[u8], out: &mut [u8]) -> Reduced {
+    unsafe { phf_reduce(file.as_ptr(), file.len(), out.as_mut_ptr(), out.len()) }
+}
+
+pub fn same(first: &[u8], second: &[u8]) -> Compared {
+    unsafe { phf_same(first.as_ptr(), first.len(), second.as_ptr(), second.len()) }
+}

@@ -1,0 +1,490 @@
+//! A plain implementation of the scope document, written from its words alone, for clarity and not for speed: each region
+//! is looked at with every other, and an entry of a curve is a bound of its own.
+
+use std::collections::BTreeSet;
+
+#[derive(Clone, Copy, Debug, PartialEq, Eq)]
+pub struct Region {
+    pub first: u16,
+    pub last: u16,
+    pub z: u16,
+}
+
+#[derive(Clone, Debug, PartialEq, Eq)]
+pub struct Family {
+    pub peptides: u16,
+    pub lengths: Vec<u16>,
+    pub regions: Vec<Region>,
+}
+
+/// The file of a family. It need not be an accepted one.
+pub fn file_of(family: &Family) -> Vec<u8> {
+    let n = family.lengths.len();
+    let k = family.regions.len();
+    let mut file = b"PHFB".to_vec();
+    let mut put = |number: usize| file.extend((number as u16).to_le_bytes());
+    put(family.peptides as usize);
+    put(n);
+    put(k);
+    put(16);
+    put(16 + 2 * n);
+    put(16 + 2 * n + 6 * k);
+    for length in &family.lengths {
+        put(*length as usize);
+    }
+    for region in &family.regions {
+        put(region.first as usize);
+        put(region.last as usize);
+        put(region.z as usize);
+    }
+    file
+}
+
+// Causes 1 to 10.
+
+/// The family of an accepted file, or the number of the first cause that holds.
+pub fn check(file: &[u8]) -> Result<Family, u16> {
+    if file.len() < 16 || file[0..4] != [0x50, 0x48, 0x46, 0x42] {
+        return Err(1);
+    }
+    let number = |offset: usize| file[offset] as usize + 256 * file[offset + 1] as usize;
+    let (m, n, k) = (number(4), number(6), number(8));
+    if m == 0 || m > 4096 {
+        return Err(2);
+    }
+    if n == 0 || n > m {
+        return Err(3);
+    }
+    if k > 2 * n - 1 {
+        return Err(4);
+    }
+    let total = 16 + 2 * n + 6 * k;
+    if number(10) != 16 || number(12) != 16 + 2 * n || number(14) != total || file.len() != total {
+        return Err(5);
+    }
+    let lengths: Vec<u16> = (0..n).map(|j| number(16 + 2 * j) as u16).collect();
+    let sum: usize = lengths.iter().map(|length| *length as usize).sum();
+    if lengths.contains(&0) || sum != m {
+        return Err(6);
+    }
+    let regions: Vec<Region> = (0..k)
+        .map(|i| {
+            let at = 16 + 2 * n + 6 * i;
+            Region {
+                first: number(at) as u16,
+                last: number(at + 2) as u16,
+                z: number(at + 4) as u16,
+            }
+        })
+        .collect();
+    if regions
+        .iter()
+        .any(|r| r.first == 0 || r.last < r.first || r.last as usize > n)
+    {
+        return Err(7);
+    }
+    if regions.windows(2).any(|two| !stands_after(two[1], two[0])) {
+        return Err(8);
+    }
+    for (i, r) in regions.iter().enumerate() {
+        for q in &regions[i + 1..] {
+            let share = r.first <= q.last && q.first <= r.last;
+            if share && !inside(q, r) && !inside(r, q) {
+                return Err(9);
+            }
+        }
+    }
+    for r in &regions {
+        let around = regions.iter().filter(|q| *q != r && inside(r, q)).count();
+        if around > 63 {
+            return Err(10);
+        }
+    }
+    Ok(Family {
+        peptides: m as u16,
+        lengths,
+        regions,
+    })
+}
+
+fn stands_after(r: Region, before: Region) -> bool {
+    r.first > before.first || (r.first == before.first && r.last < before.last)
+}
+
+fn inside(r: &Region, q: &Region) -> bool {
+    q.first <= r.first && r.last <= q.last
+}
+
+// Causes 11 to 16.
+
+/// Why a call declines: the number, and with 13 every place, counted from 1, whose peptide stands earlier too.
+#[derive(Clone, Debug, PartialEq, Eq)]
+pub struct Refusal {
+    pub number: u16,
+    pub places: Vec<u16>,
+}
+
+fn refusal(number: u16) -> Refusal {
+    Refusal {
+        number,
+        places: Vec::new(),
+    }
+}
+
+fn check_path(m: u16, path: &[u16]) -> Result<(), Refusal> {
+    if path.len() > m as usize {
+        return Err(refusal(11));
+    }
+    if path.iter().any(|p| *p == 0 || *p > m) {
+        return Err(refusal(12));
+    }
+    let mut seen = BTreeSet::new();
+    let mut places = Vec::new();
+    for (i, p) in path.iter().enumerate() {
+        if !seen.insert(*p) {
+            places.push(i as u16 + 1);
+        }
+    }
+    if places.is_empty() {
+        Ok(())
+    } else {
+        Err(Refusal { number: 13, places })
+    }
+}
+
+// Pieces of the line of peptides, each with its z: the regions of a family, or the stretches of a reduction.
+
+#[derive(Clone, Copy, Debug, PartialEq, Eq)]
+pub struct Piece {
+    pub low: usize,
+    pub high: usize,
+    pub z: usize,
+}
+
+impl Piece {
+    fn has(&self, p: usize) -> bool {
+        self.low <= p && p <= self.high
+    }
+
+    fn strictly_inside(&self, other: &Piece) -> bool {
+        other.low <= self.low
+            && self.high <= other.high
+            && (other.low, other.high) != (self.low, self.high)
+    }
+}
+
+/// The peptides of each region, from first to last, in file order.
+pub fn pieces(family: &Family) -> Vec<Piece> {
+    let up_to = |leaf: u16| -> usize {
+        family.lengths[..leaf as usize]
+            .iter()
+            .map(|length| *length as usize)
+            .sum()
+    };
+    family
+        .regions
+        .iter()
+        .map(|r| Piece {
+            low: up_to(r.first - 1) + 1,
+            high: up_to(r.last),
+            z: r.z as usize,
+        })
+        .collect()
+}
+
+/// Which pieces stand just inside which, and which peptides are in none of those.
+pub struct Forest {
+    pub pieces: Vec<Piece>,
+    parents: Vec<Option<usize>>,
+    just_inside: Vec<Vec<usize>>,
+    outer: Vec<usize>,
+    own: Vec<Vec<usize>>,
+    loose: Vec<usize>,
+}
+
+impl Forest {
+    pub fn new(m: usize, pieces: Vec<Piece>) -> Forest {
+        let count = pieces.len();
+        // the smallest piece strictly around each
+        let parents: Vec<Option<usize>> = (0..count)
+            .map(|i| {
+                (0..count)
+                    .filter(|j| pieces[i].strictly_inside(&pieces[*j]))
+                    .min_by_key(|j| pieces[*j].high - pieces[*j].low)
+            })
+            .collect();
+        let mut just_inside = vec![Vec::new(); count];
+        let mut outer = Vec::new();
+        for (i, parent) in parents.iter().enumerate() {
+            match parent {
+                Some(j) => just_inside[*j].push(i),
+                None => outer.push(i),
+            }
+        }
+        // each peptide counts at the smallest piece that has it
+        let mut own = vec![Vec::new(); count];
+        let mut loose = Vec::new();
+        for p in 1..=m {
+            let smallest = (0..count)
+                .filter(|j| pieces[*j].has(p))
+                .min_by_key(|j| pieces[*j].high - pieces[*j].low);
+            match smallest {
+                Some(j) => own[j].push(p),
+                None => loose.push(p),
+            }
+        }
+        Forest {
+            pieces,
+            parents,
+            just_inside,
+            outer,
+            own,
+            loose,
+        }
+    }
+
+    pub fn of(family: &Family) -> Forest {
+        Forest::new(family.peptides as usize, pieces(family))
+    }
+
+    fn around(&self, i: usize) -> Vec<usize> {
+        let mut found = Vec::new();
+        let mut at = self.parents[i];
+        while let Some(j) = at {
+            found.push(j);
+            at = self.parents[j];
+        }
+        found
+    }
+
+    /// The inside total of a piece; those of all pieces inside it are noted too.
+    fn inside_total(&self, i: usize, selected: &[bool], totals: &mut Vec<usize>) -> usize {
+        let inner: usize = self.just_inside[i]
+            .iter()
+            .map(|j| self.value(*j, selected, totals))
+            .sum();
+        let own = self.own[i].iter().filter(|p| selected[**p]).count();
+        totals[i] = inner + own;
+        totals[i]
+    }
+
+    fn value(&self, i: usize, selected: &[bool], totals: &mut Vec<usize>) -> usize {
+        self.inside_total(i, selected, totals).min(self.pieces[i].z)
+    }
+
+    /// The bound of a selection (by peptide number, place 0 unused), and the inside total of each piece.
+    pub fn bound(&self, selected: &[bool]) -> (usize, Vec<usize>) {
+        let mut totals = vec![0; self.pieces.len()];
+        let inner: usize = self
+            .outer
+            .iter()
+            .map(|i| self.value(*i, selected, &mut totals))
+            .sum();
+        let loose = self.loose.iter().filter(|p| selected[**p]).count();
+        (inner + loose, totals)
+    }
+
+    /// For each piece whether it is taken, from the inside totals.
+    pub fn taken(&self, totals: &[usize]) -> Vec<bool> {
+        let full = |i: usize| self.pieces[i].z < totals[i];
+        (0..self.pieces.len())
+            .map(|i| full(i) && !self.around(i).into_iter().any(full))
+            .collect()
+    }
+
+    /// Every entry is the bound of its prefix.
+    pub fn curve(&self, m: usize, path: &[u16]) -> Vec<u16> {
+        let mut selected = vec![false; m + 1];
+        let mut entries = vec![self.bound(&selected).0 as u16];
+        for p in path {
+            selected[*p as usize] = true;
+            entries.push(self.bound(&selected).0 as u16);
+        }
+        entries
+    }
+}
+
+/// Mark t is 1 exactly when entry t is one more than entry t - 1.
+pub fn marks(entries: &[u16]) -> Vec<u8> {
+    entries
+        .windows(2)
+        .map(|two| (two[1] == two[0] + 1) as u8)
+        .collect()
+}
+
+/// The largest t at which entry t times b is at most a times t.
+pub fn cut_of(entries: &[u16], a: u16, b: u16) -> u16 {
+    (0..entries.len())
+        .filter(|t| entries[*t] as u64 * b as u64 <= a as u64 * *t as u64)
+        .max()
+        .unwrap() as u16
+}
+
+// The calls.
+
+/// The bound and the K taken bytes.
+pub fn bound(file: &[u8], selection: &[u8], room: usize) -> Result<(u16, Vec<u8>), u16> {
+    let family = check(file)?;
+    let m = family.peptides as usize;
+    if selection.len() != m || selection.iter().any(|byte| *byte > 1) {
+        return Err(14);
+    }
+    if room < family.regions.len() {
+        return Err(16);
+    }
+    let mut selected = vec![false];
+    selected.extend(selection.iter().map(|byte| *byte == 1));
+    let forest = Forest::of(&family);
+    let (value, totals) = forest.bound(&selected);
+    let taken = forest.taken(&totals).into_iter().map(u8::from).collect();
+    Ok((value as u16, taken))
+}
+
+/// The T + 1 values and the T marks.
+pub fn curve(
+    file: &[u8],
+    path: &[u16],
+    values_room: usize,
+    marks_room: usize,
+) -> Result<(Vec<u16>, Vec<u8>), Refusal> {
+    let family = check(file).map_err(refusal)?;
+    check_path(family.peptides, path)?;
+    if values_room < path.len() + 1 || marks_room < path.len() {
+        return Err(refusal(16));
+    }
+    let entries = Forest::of(&family).curve(family.peptides as usize, path);
+    let marked = marks(&entries);
+    Ok((entries, marked))
+}
+
+pub fn cut(file: &[u8], path: &[u16], a: u16, b: u16) -> Result<u16, Refusal> {
+    let family = check(file).map_err(refusal)?;
+    check_path(family.peptides, path)?;
+    if b == 0 || a > b {
+        return Err(refusal(15));
+    }
+    let entries = Forest::of(&family).curve(family.peptides as usize, path);
+    Ok(cut_of(&entries, a, b))
+}
+
+pub fn reduce(file: &[u8], room: usize) -> Result<Family, u16> {
+    let family = check(file)?;
+    if room < file.len() {
+        return Err(16);
+    }
+    Ok(reduced(&family))
+}
+
+pub fn same(first: &[u8], second: &[u8]) -> Result<bool, u16> {
+    let one = check(first)?;
+    let other = check(second).map_err(|number| number + 100)?;
+    if one.peptides != other.peptides {
+        return Ok(false);
+    }
+    Ok(reduced(&one) == reduced(&other))
+}
+
+// The reduction.
+
+pub fn reduced(family: &Family) -> Family {
+    let m = family.peptides as usize;
+    let regions = pieces(family);
+    // step 1, by peptide number; place 0 is no peptide
+    let mut live = vec![true; m + 1];
+    live[0] = false;
+    for r in regions.iter().filter(|r| r.z == 0) {
+        for p in r.low..=r.high {
+            live[p] = false;
+        }
+    }
+    let stretches = Forest::new(m, stretches(&regions, &live));
+    let mut kept: Vec<Piece> = Vec::new();
+    // step 3: the room is the inside total of the live peptides
+    let (_, rooms) = stretches.bound(&live);
+    for (i, s) in stretches.pieces.iter().enumerate() {
+        let larger_around = stretches
+            .around(i)
+            .into_iter()
+            .all(|j| stretches.pieces[j].z > s.z);
+        if s.z < rooms[i] && larger_around {
+            kept.push(*s);
+        }
+    }
+    // step 4
+    kept.extend(dead_runs(m, &live));
+    kept.sort_by_key(|s| (s.low, std::cmp::Reverse(s.high)));
+    with_leaves(m, &kept)
+}
+
+// Step 2.
+fn stretches(regions: &[Piece], live: &[bool]) -> Vec<Piece> {
+    let mut found: Vec<Piece> = Vec::new();
+    for r in regions.iter().filter(|r| r.z >= 1) {
+        let alive: Vec<usize> = (r.low..=r.high).filter(|p| live[*p]).collect();
+        let (Some(low), Some(high)) = (alive.first(), alive.last()) else {
+            continue;
+        };
+        let coinciding = found.iter_mut().find(|s| (s.low, s.high) == (*low, *high));
+        match coinciding {
+            Some(s) => s.z = s.z.min(r.z),
+            None => found.push(Piece {
+                low: *low,
+                high: *high,
+                z: r.z,
+            }),
+        }
+    }
+    found
+}
+
+fn dead_runs(m: usize, live: &[bool]) -> Vec<Piece> {
+    let mut runs = Vec::new();
+    let mut p = 1;
+    while p <= m {
+        let low = p;
+        while p <= m && !live[p] {
+            p += 1;
+        }
+        if p > low {
+            runs.push(Piece {
+                low,
+                high: p - 1,
+                z: 0,
+            });
+        }
+        p += 1;
+    }
+    runs
+}
+
+fn with_leaves(m: usize, pieces: &[Piece]) -> Family {
+    let mut ends = BTreeSet::from([m]);
+    for s in pieces {
+        ends.insert(s.high);
+        if s.low > 1 {
+            ends.insert(s.low - 1);
+        }
+    }
+    let ends: Vec<usize> = ends.into_iter().collect();
+    let mut lengths = Vec::new();
+    let mut before = 0;
+    for end in &ends {
+        lengths.push((end - before) as u16);
+        before = *end;
+    }
+    // the leaf with a peptide is the first that ends at it or later
+    let leaf_of = |p: usize| ends.iter().position(|end| p <= *end).unwrap() as u16 + 1;
+    let regions = pieces
+        .iter()
+        .map(|s| Region {
+            first: leaf_of(s.low),
+            last: leaf_of(s.high),
+            z: s.z as u16,
+        })
+        .collect();
+    Family {
+        peptides: m as u16,
+        lengths,
+        regions,
+    }
+}

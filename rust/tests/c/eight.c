@@ -1,0 +1,124 @@
+/*
+ * The eight-peptide family from C: every call, and what it writes. The expected values are those of the scope document.
+ * Compiled as C99 and as C++11. Prints `ok`, or the first line that does not hold.
+ */
+#include <stdio.h>
+#include <string.h>
+
+#include "phf.h"
+
+static int failures = 0;
+
+#define HOLDS(fact)                                                  \
+    do {                                                             \
+        if (!(fact)) {                                               \
+            printf("line %d does not hold: %s\n", __LINE__, #fact); \
+            failures++;                                              \
+        }                                                            \
+    } while (0)
+
+static const uint8_t eight[54] = {
+    0x50, 0x48, 0x46, 0x42, 8, 0, 4, 0, 5, 0, 16, 0, 24, 0, 54, 0,
+    2, 0, 3, 0, 1, 0, 2, 0,
+    1, 0, 2, 0, 3, 0,
+    1, 0, 1, 0, 2, 0,
+    2, 0, 2, 0, 1, 0,
+    3, 0, 4, 0, 3, 0,
+    4, 0, 4, 0, 0, 0};
+
+static void check_and_regions(void)
+{
+    phf_checked good = phf_check(eight, sizeof eight);
+    phf_checked torn = phf_check(eight, sizeof eight - 1);
+    phf_checked none = phf_check(NULL, 0);
+    phf_part part = phf_regions(eight, sizeof eight);
+    phf_part no_part = phf_regions(eight, 15);
+    HOLDS(good.number == 0 && good.peptides == 8 && good.leaves == 4 && good.regions == 5);
+    HOLDS(torn.number == 5 && torn.peptides == 0 && torn.leaves == 0 && torn.regions == 0);
+    HOLDS(none.number == 1);
+    HOLDS(part.offset == 24 && part.length == 30);
+    HOLDS(no_part.offset == 0 && no_part.length == 0);
+}
+
+static void bound(void)
+{
+    const uint8_t all[8] = {1, 1, 1, 1, 1, 1, 1, 1};
+    const uint8_t expected[6] = {0, 0, 1, 0, 1, 77};
+    uint8_t taken[6];
+    phf_bounded answer;
+    memset(taken, 77, sizeof taken);
+    answer = phf_bound(eight, sizeof eight, all, 8, taken, 4);
+    HOLDS(answer.number == 16 && answer.bound == 0 && taken[0] == 77);
+    answer = phf_bound(eight, sizeof eight, all, 7, taken, 6);
+    HOLDS(answer.number == 14 && answer.bound == 0 && taken[0] == 77);
+    answer = phf_bound(eight, sizeof eight, all, 8, taken, 6);
+    HOLDS(answer.number == 0 && answer.bound == 4);
+    HOLDS(memcmp(taken, expected, 6) == 0);
+}
+
+static void curve_and_cut(void)
+{
+    const uint16_t path[8] = {7, 3, 1, 4, 6, 2, 5, 8};
+    const uint16_t twice[3] = {7, 3, 7};
+    const uint16_t expected[10] = {0, 0, 1, 2, 2, 3, 4, 4, 4, 777};
+    const uint8_t expected_marks[9] = {0, 1, 1, 0, 1, 1, 0, 0, 77};
+    uint16_t values[10];
+    uint8_t marks[9];
+    phf_curved answer;
+    phf_cutting cut;
+    int i;
+    for (i = 0; i < 10; i++)
+        values[i] = 777;
+    memset(marks, 77, sizeof marks);
+    answer = phf_curve(eight, sizeof eight, twice, 3, values, 10, marks, 9);
+    HOLDS(answer.number == 13 && answer.place == 3 && values[0] == 777 && marks[0] == 77);
+    answer = phf_curve(eight, sizeof eight, path, 8, values, 8, marks, 9);
+    HOLDS(answer.number == 16 && answer.place == 0 && values[0] == 777 && marks[0] == 77);
+    answer = phf_curve(eight, sizeof eight, NULL, 0, values, 1, NULL, 0);
+    HOLDS(answer.number == 0 && answer.place == 0 && values[0] == 0 && values[1] == 777);
+    answer = phf_curve(eight, sizeof eight, path, 8, values, 10, marks, 9);
+    HOLDS(answer.number == 0 && answer.place == 0);
+    HOLDS(memcmp(values, expected, sizeof values) == 0);
+    HOLDS(memcmp(marks, expected_marks, sizeof marks) == 0);
+    cut = phf_cut(eight, sizeof eight, path, 8, 1, 2);
+    HOLDS(cut.number == 0 && cut.place == 0 && cut.cut == 8);
+    cut = phf_cut(eight, sizeof eight, path, 8, 2, 5);
+    HOLDS(cut.number == 0 && cut.place == 0 && cut.cut == 1);
+    cut = phf_cut(eight, sizeof eight, path, 8, 1, 0);
+    HOLDS(cut.number == 15 && cut.place == 0 && cut.cut == 0);
+    cut = phf_cut(eight, sizeof eight, twice, 3, 1, 2);
+    HOLDS(cut.number == 13 && cut.place == 3 && cut.cut == 0);
+}
+
+static void reduce_and_same(void)
+{
+    const uint8_t expected[36] = {
+        0x50, 0x48, 0x46, 0x42, 8, 0, 4, 0, 2, 0, 16, 0, 24, 0, 36, 0,
+        2, 0, 3, 0, 1, 0, 2, 0,
+        2, 0, 2, 0, 1, 0,
+        4, 0, 4, 0, 0, 0};
+    uint8_t out[54];
+    phf_reduced answer;
+    phf_compared compared;
+    memset(out, 77, sizeof out);
+    answer = phf_reduce(eight, sizeof eight, out, sizeof out - 1);
+    HOLDS(answer.number == 16 && answer.length == 0 && answer.regions == 0 && out[0] == 77);
+    answer = phf_reduce(eight, sizeof eight, out, sizeof out);
+    HOLDS(answer.number == 0 && answer.length == 36 && answer.regions == 2);
+    HOLDS(memcmp(out, expected, 36) == 0 && out[36] == 77 && out[53] == 77);
+    compared = phf_same(eight, sizeof eight, out, 36);
+    HOLDS(compared.number == 0 && compared.same == 1);
+    compared = phf_same(eight, sizeof eight, out, 35);
+    HOLDS(compared.number == 105 && compared.same == 0);
+}
+
+int main(void)
+{
+    check_and_regions();
+    bound();
+    curve_and_cut();
+    reduce_and_same();
+    if (failures == 0)
+        printf("ok\n");
+    return failures != 0;
+}

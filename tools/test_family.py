@@ -1,0 +1,105 @@
+"""Tests of tools/family.py, and that the examples are what it makes of their lists. Run: python3 tools/test_family.py"""
+
+import pathlib
+import subprocess
+import sys
+import tempfile
+import unittest
+
+import family
+
+ROOT = pathlib.Path(__file__).resolve().parent.parent
+EIGHT = """# the eight-peptide family
+leaves 2 3   # two lines
+leaves 1 2
+region 1 2 3
+region 1 1 2
+region 2 2 1
+region 3 4 3
+region 4 4 0
+path 7 3 1 4 6 2 5 8
+"""
+
+
+class Lists(unittest.TestCase):
+    def test_eight_peptides(self):
+        lengths, regions, path = family.read_list(EIGHT)
+        # byte by byte from the layout: m = 8, N = 4, K = 5, offsets 16 and 24, total 54
+        self.assertEqual(
+            family.family_bytes(lengths, regions).hex(" "),
+            "50 48 46 42 08 00 04 00 05 00 10 00 18 00 36 00 "
+            "02 00 03 00 01 00 02 00 "
+            "01 00 02 00 03 00 01 00 01 00 02 00 02 00 02 00 01 00 03 00 04 00 03 00 04 00 04 00 00 00",
+        )
+        self.assertEqual(family.path_bytes(path).hex(" "), "07 00 03 00 01 00 04 00 06 00 02 00 05 00 08 00")
+
+    def test_low_byte_first(self):
+        self.assertEqual(family.path_bytes([258, 65535]).hex(" "), "02 01 ff ff")
+
+    def test_there_and_back(self):
+        lengths = [1 + i % 7 for i in range(60)]
+        regions = [(i, 60, i * 1000) for i in range(1, 60)]
+        path = list(range(200, 0, -1))
+        text = family.write_list(lengths, regions, path)
+        self.assertEqual(family.read_list(text), (lengths, regions, path))
+        data = family.family_bytes(lengths, regions)
+        self.assertEqual(family.split_family(data), (lengths, regions))
+        self.assertEqual(family.split_path(family.path_bytes(path)), path)
+
+    def test_empty_path(self):
+        self.assertEqual(family.read_list("leaves 3\n"), ([3], [], []))
+        self.assertEqual(family.path_bytes([]), b"")
+
+    def test_bad_lists(self):
+        for text in ["leaf 3", "leaves x", "leaves -1", "leaves 65536", "region 1 2", "region 1 2 3 4"]:
+            with self.assertRaises(family.BadList, msg=text):
+                family.read_list(text)
+
+    def test_too_large(self):
+        with self.assertRaises(family.BadList):
+            family.family_bytes([65535, 1], [])
+
+    def test_bad_files(self):
+        good = family.family_bytes([2, 3], [(1, 1, 1)])
+        for data in [b"", good[:-1], good + b"\0", b"PHFC" + good[4:], good[:4] + b"\6" + good[5:]]:
+            with self.assertRaises(family.BadList):
+                family.split_family(data)
+        with self.assertRaises(family.BadList):
+            family.split_path(b"\0")
+
+
+class Commands(unittest.TestCase):
+    def run_script(self, *words):
+        return subprocess.run(
+            [sys.executable, ROOT / "tools/family.py", *words], capture_output=True, text=True, check=False
+        )
+
+    def test_files_and_list(self):
+        with tempfile.TemporaryDirectory() as folder:
+            source = pathlib.Path(folder) / "family.txt"
+            source.write_text(EIGHT, encoding="utf-8")
+            self.assertEqual(self.run_script("files", source, folder).returncode, 0)
+            listed = self.run_script("list", folder)
+            self.assertEqual(listed.returncode, 0)
+            self.assertEqual(family.read_list(listed.stdout), family.read_list(EIGHT))
+
+    def test_problems_are_told(self):
+        wrong = self.run_script("list", "no-such-folder")
+        self.assertEqual((wrong.returncode, wrong.stdout), (1, ""))
+        self.assertIn("no-such-folder", wrong.stderr)
+        self.assertEqual(self.run_script().returncode, 2)
+
+
+class Examples(unittest.TestCase):
+    def test_files_are_made_of_the_lists(self):
+        folders = [folder for folder in sorted((ROOT / "examples").iterdir()) if folder.is_dir()]
+        self.assertGreaterEqual(len(folders), 5)
+        for folder in folders:
+            with self.subTest(folder=folder.name):
+                lengths, regions, path = family.read_list((folder / "family.txt").read_text(encoding="utf-8"))
+                self.assertEqual((folder / "family.phf").read_bytes(), family.family_bytes(lengths, regions))
+                self.assertEqual((folder / "path.u16").read_bytes(), family.path_bytes(path))
+
+
+if __name__ == "__main__":
+    unittest.main()
