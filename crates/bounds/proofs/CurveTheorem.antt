@@ -20,13 +20,15 @@ use Rattle.reader.proofs.Accepting.{well-formed}
 use Rattle.bounds.specs.Ranges.{Range, Peptides, rangesOf, card}
 use Rattle.bounds.specs.Bound.{Admissible, IsLargest}
 use Rattle.bounds.specs.Curves.{among, entry, curveValues, markAt, curveMarks}
-use Rattle.bounds.specs.Paths.{IsPath, marked}
+use Rattle.bounds.specs.Paths.{Distinct, marked}
+use Rattle.bounds.specs.Calls.{IsPath}
 use Rattle.bounds.proofs.Members.{test, bit}
 use Rattle.bounds.proofs.Counting.{card-same, adding, count-same}
 use Rattle.bounds.proofs.Greedy.{respects-facts, respects-holds, greedy}
 use Rattle.bounds.proofs.Formula.{formula3}
 use Rattle.bounds.proofs.Paths.{path-admissible, path-bound}
 use Rattle.bounds.proofs.Family.{family-laminar}
+use Rattle.bounds.proofs.PathLaws.{accepted-path}
 use Rattle.bounds.proofs.Walking.{markedSet, stops, marked-stays, marked-grows, entry-next, mark-is}
 
 -- What the theorem says of the first t peptides of a path.
@@ -51,7 +53,7 @@ mark-at : (F : Family) (path : List ℕ) (t : ℕ) → t < length path → getD 
 unfolding curveMarks
 mark-at F path t h = getD-tabulate (length path) (λ i. markAt F path (i + 1)) 0 t h
 
-module _ {F : Family} {path : List ℕ} (well : WellFormed F) (is : IsPath (F .peptides) path) where
+module _ {F : Family} {path : List ℕ} (well : WellFormed F) (is : Distinct (F .peptides) path) where
   mark-bit : (t : ℕ) → t < length path → getD (curveMarks F path) t 0 ≡ bit (not (stops well is t))
   mark-bit t h = mark-at F path t h ∙ mark-is well is t h
 
@@ -121,4 +123,4 @@ module _ {F : Family} {path : List ℕ} (well : WellFormed F) (is : IsPath (F .p
 -- The theorem.
 pub curve-theorem : (s : List ℕ) → IsBytes s → Accepted s → (path : List ℕ) → IsPath (familyOf s .peptides) path
     → (t : ℕ) → t ≤ length path → CurveAt (familyOf s) path t
-curve-theorem s bytes accepted path is t h = curve-at (well-formed s bytes accepted) is t h
+curve-theorem s bytes accepted path is t h = curve-at (well-formed s bytes accepted) (accepted-path (familyOf s .peptides) path is) t h

@@ -21,7 +21,7 @@ use Rattle.reader.proofs.First.{Numbered, head-clear, join-clear, join-holds}
 use Rattle.reader.proofs.Accepting.{well-formed, accepted-header, few-regions, file-numbered}
 use Rattle.bounds.specs.Curves.{cause11, cause12, repeated, cause13}
 use Rattle.bounds.specs.Calls.{pathCauses}
-use Rattle.bounds.specs.Paths.{IsPath}
+use Rattle.bounds.specs.Paths.{Distinct}
 use Rattle.bounds.specs.Walks.{numberCause, firstRepeat, inputCauses, Walkable}
 use Rattle.bounds.proofs.Members.{test, clash, or-r, bit}
 
@@ -180,12 +180,12 @@ path-differs path h i j l lj e =
     (none-at (λ i. eqb (getD path i 0) (getD path j 0)) j i (sym (repeated-seen path j) ∙ none-at (λ i. repeated path (i + 1)) (length path) j h lj) l)
     e
 
-pub is-path : (m : ℕ) (path : List ℕ) → numberCause m path ≡ 0 → cause13 path ≡ false → IsPath m path
+pub is-path : (m : ℕ) (path : List ℕ) → numberCause m path ≡ 0 → cause13 path ≡ false → Distinct m path
 is-path m path n d =
     record { some = λ i l. path-numbers m path n i l .0; most = λ i l. path-numbers m path n i l .1; differ = path-differs path d }
 
 -- A path for which none of the causes 11 to 13 holds is a path of different peptides.
-pub accepted-path : (m : ℕ) (path : List ℕ) → firstCause (pathCauses m path) ≡ 0 → IsPath m path
+pub accepted-path : (m : ℕ) (path : List ℕ) → firstCause (pathCauses m path) ≡ 0 → Distinct m path
 unfolding pathCauses numberCause
 accepted-path m path h =
     let a = head-clear _ _ (omega arith) h in

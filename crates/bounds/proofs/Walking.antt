@@ -19,7 +19,7 @@ use Rattle.reader.proofs.Lists.{length-tabulate}
 use Rattle.reader.proofs.Walk.{FirstReaching, leaf-found}
 use Rattle.bounds.specs.Ranges.{Range, Peptides, rangeOf, rangesOf, has, card, count}
 use Rattle.bounds.specs.Curves.{among, entry, markAt, largestUpTo}
-use Rattle.bounds.specs.Paths.{IsPath}
+use Rattle.bounds.specs.Paths.{Distinct}
 use Rattle.bounds.specs.Walks.{holdsLeaf, crowded, Stepped}
 use Rattle.bounds.proofs.Members.{test, clash, refuted, both-ways, and-l, and-r, and-both, bit, bit-mono, le-or-lt, In, place}
 use Rattle.bounds.proofs.Counting.{none, card-none, adding, count-none, count-adding, count-adding-other}
@@ -127,7 +127,7 @@ counts-most F G C w counts k h = omega (arith, counts k h, card-most (F .peptide
 
 -- A path of different peptides.
 
-module _ {F : Family} {path : List ℕ} (well : WellFormed F) (is : IsPath (F .peptides) path) where
+module _ {F : Family} {path : List ℕ} (well : WellFormed F) (is : Distinct (F .peptides) path) where
   -- the peptides marked among the first t
   abbrev pub markedSet : ℕ → Peptides
   markedSet t = greedy (F .peptides) (rangesOf F) none (take t path)

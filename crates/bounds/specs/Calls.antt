@@ -60,6 +60,10 @@ pathCauses m path =
     ∷ record { number = 13; holds = cause13 path }
     ∷ []
 
+-- a path of m peptides: none of the causes 11 to 13 holds
+abbrev pub IsPath : ℕ → List ℕ → Type 0
+IsPath m path = firstCause (pathCauses m path) ≡ 0
+
 -- values under T + 1, marks under T
 unfoldable pub curveCauses : List ℕ → List ℕ → List ℕ → List ℕ → List Cause
 curveCauses file path values marks =

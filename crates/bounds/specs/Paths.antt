@@ -9,7 +9,7 @@ use Rattle.reader.specs.Lists.{someBelow}
 use Rattle.bounds.specs.Ranges.{Peptides}
 
 -- the path is different peptide numbers, each from 1 to m
-pub record IsPath (m : ℕ) (path : List ℕ) : Type 0 where
+pub record Distinct (m : ℕ) (path : List ℕ) : Type 0 where
   pub some : (i : ℕ) → i < length path → 1 ≤ getD path i 0
   pub most : (i : ℕ) → i < length path → getD path i 0 ≤ m
   pub differ : (i j : ℕ) → i < j → j < length path → getD path i 0 ≡ getD path j 0 → ⊥

@@ -11,7 +11,7 @@ use Rattle.reader.specs.Causes.{Cause, firstCause, fileCauses}
 use Rattle.reader.specs.WellFormed.{WellFormed, Nested}
 use Rattle.bounds.specs.Curves.{cause11, cause12, repeated}
 use Rattle.bounds.specs.Calls.{pathCauses}
-use Rattle.bounds.specs.Paths.{IsPath}
+use Rattle.bounds.specs.Paths.{Distinct}
 use Rattle.bounds.specs.declared.path.Admitted.{Admitted}
 use Rattle.bounds.specs.declared.path.Admitted.the-variants.{Yes, Refused, Repeated}
 
@@ -34,7 +34,7 @@ pub record Walkable (F : Family) (path P : List ℕ) : Type 0 where
   pub well : WellFormed F
   pub nested : Nested F P
   pub short : length path ≤ F .peptides
-  pub different : IsPath (F .peptides) path
+  pub different : Distinct (F .peptides) path
 
 -- a family and a path are accepted, or a number of a cause, or 13 with the first place whose peptide stands earlier too
 abbrev pub Admission : List ℕ → List ℕ → List ℕ → Admitted → Type 0

@@ -3,7 +3,7 @@ use mathlib.Core.Bool.{Bool, true, false, not, _&&_, _||_, true≢false}
 use mathlib.Core.Path.{_≡_, refl, sym, _∙_}
 use mathlib.Core.Logic.{_⊎_, inl, inr}
 
--- a test passes or refuted
+-- a test passes or fails
 pub test : (b : Bool) → (b ≡ true) ⊎ (b ≡ false)
 test true = inl refl
 test false = inr refl
@@ -11,7 +11,7 @@ test false = inr refl
 pub clash : {b : Bool} → b ≡ true → b ≡ false → ⊥
 clash t f = true≢false (sym t ∙ f)
 
--- a test that cannot fail passes, and one that cannot pass refuted
+-- a test that cannot fail passes, and one that cannot pass fails
 pub passes : (b : Bool) → (b ≡ false → ⊥) → b ≡ true
 passes true h = refl
 passes false h = absurd (h refl)

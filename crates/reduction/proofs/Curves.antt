@@ -18,7 +18,8 @@ use Rattle.bounds.proofs.Counting.{Subset, card-mono, card-less, count-mono}
 use Rattle.bounds.proofs.Laminar.{Laminar}
 use Rattle.bounds.proofs.Greedy.{Respects, respects-facts}
 use Rattle.bounds.proofs.Formula.{formula3, bound-most}
-use Rattle.reduction.specs.Alike.{IsPath, Alike}
+use Rattle.bounds.specs.Calls.{IsPath}
+use Rattle.reduction.specs.Alike.{Alike}
 use Rattle.reduction.proofs.Listing.{listing, among-listing, listing-among, listing-path}
 use Rattle.reduction.proofs.Live.{SameAdmissible}
 

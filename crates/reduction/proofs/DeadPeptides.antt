@@ -15,11 +15,11 @@ use Rattle.reader.specs.WellFormed.{WellFormed}
 use Rattle.bounds.specs.Ranges.{Range, rangeOf, rangesOf}
 use Rattle.bounds.proofs.Members.{In, place, test, le-or-lt}
 use Rattle.bounds.proofs.Nesting.{has-facts, has-holds}
-use Rattle.bounds.proofs.Family.{ranges-length, range-in}
+use Rattle.bounds.proofs.Family.{ranges-length, range-in, noRange, range-at, upTo-mono}
 use Rattle.reduction.specs.Reduction.{live}
 use Rattle.reduction.specs.Passes.{range, Marked, LiveUpTo, Reached}
 use Rattle.reduction.proofs.Live.{dead-facts, dead-holds}
-use Rattle.reduction.proofs.OpenRegions.{below-next, rises, upTo-small}
+use Rattle.reduction.proofs.OpenRegions.{below-next, upTo-small}
 
 -- The byte of one peptide more is written.
 
@@ -45,13 +45,6 @@ marked-less L M from to until n h k = record { old = k .old; new = λ p a l. k .
 
 -- The ranges of a family by number.
 
-abbrev noRange : Family → Range
-noRange F = rangeOf F (record { first = 0; last = 0; z = 0 })
-
-pub range-at : (F : Family) (k : ℕ) → getD (rangesOf F) k (noRange F) ≡ range F k
-unfolding rangesOf region
-range-at F k = List·getD-map (rangeOf F) (F .regions) k (record { first = 0; last = 0; z = 0 })
-
 -- a range of the family is that of a region
 pub record Numbered (F : Family) (r : Range) : Type 0 where
   pub number : ℕ
@@ -71,11 +64,11 @@ module _ (F : Family) (w : WellFormed F) where
   -- regions begin in rising order, with their peptides too
   pub low-rises : (i k : ℕ) → i < k → k < regionCount F → range F i .low ≤ range F k .low
   unfolding rangeOf
-  low-rises i k h l = rises F (region F i .first - 1) (region F k .first - 1) (omega (arith, w .ordered .rising i k h l))
+  low-rises i k h l = upTo-mono F (region F i .first - 1) (region F k .first - 1) (omega (arith, w .ordered .rising i k h l))
 
   pub low-high : (k : ℕ) → k < regionCount F → range F k .low ≤ range F k .high
   unfolding rangeOf
-  low-high k l = rises F (region F k .first - 1) (region F k .last) (omega (arith, w .ordered .first-last k l))
+  low-high k l = upTo-mono F (region F k .first - 1) (region F k .last) (omega (arith, w .ordered .first-last k l))
 
   pub high-small : (k : ℕ) → k < regionCount F → range F k .high ≤ F .peptides
   unfolding rangeOf

@@ -7,7 +7,7 @@ use mathlib.Core.Path.{_≡_, refl, sym, ap, _∙_}
 use mathlib.Core.Logic.{⊎-elim}
 use native.Mathlib.Omega.{arith}
 use lib.ListN.{length, take, drop}
-use lib.Seq.{take-at}
+use lib.Seq.{take-at, drop-at}
 use Rattle.reader.specs.Lists.{sameList}
 use Rattle.reader.specs.Bytes.{IsBytes, numberAt}
 use Rattle.reader.specs.Family.{regionCount, familyOf}
@@ -44,12 +44,14 @@ pub record Reduces (file out : List ℕ) (r : ReducedFile) (new : List ℕ) : Ty
 pub record Compares (first second : List ℕ) (r : Compared) : Type 0 where
   pub answered : reportCompared r ≡ answer (compareCauses first second) (comparison first second)
 
--- the answer has a length, and the reduced file is as many of the first bytes of the output
-pub record AtStart (file : List ℕ) (r : ReducedFile) (new : List ℕ) : Type 0 where
+-- the answer has the length and the K of the reduced file, which is as many of the first bytes of the output; the rest is unchanged
+pub record AtStart (file out : List ℕ) (r : ReducedFile) (new : List ℕ) : Type 0 where
   pub bytes : ℕ
   pub regions : ℕ
   pub counted : r ≡ made.Written bytes regions
+  pub said : regions ≡ numberAt (reducedFile file) 8
   pub start : take bytes new ≡ reducedFile file
+  pub rest : drop bytes new ≡ drop bytes out
 
 pub record DemandThree : Type 0 where
   -- The reduced file is bytes, and an accepted file,
@@ -69,7 +71,7 @@ pub record DemandThree : Type 0 where
   -- It is no longer than the file, so an output as long as the file suffices.
   pub fits : (f : AcceptedFile) → length (reducedFile (f .file)) ≤ length (f .file)
   -- By its promise `reduce` writes this file,
-  pub reduces : (f : AcceptedFile) (out new : List ℕ) (r : ReducedFile) → length (f .file) ≤ length out → Reduces (f .file) out r new → AtStart (f .file) r new
+  pub reduces : (f : AcceptedFile) (out new : List ℕ) (r : ReducedFile) → length (f .file) ≤ length out → Reduces (f .file) out r new → AtStart (f .file) out r new
   -- and by its promise `same` says yes exactly when the two families are alike.
   pub alike-if-same : (f g : AcceptedFile) (r : Compared) → Compares (f .file) (g .file) r → r ≡ compared.Same → Alike (familyOf (f .file)) (familyOf (g .file))
   pub same-if-alike : (f g : AcceptedFile) (r : Compared) → Compares (f .file) (g .file) r → Alike (familyOf (f .file)) (familyOf (g .file)) → r ≡ compared.Same
@@ -87,17 +89,20 @@ module _ (f : AcceptedFile) (out : List ℕ) (room : length (f .file) ≤ length
   no-cause : firstCause (reduceCauses (f .file) out) ≡ 0
   no-cause = output-suffices (f .file) out (f .accepted) room
 
-  reduces-to : (r : ReducedFile) (new : List ℕ) → Reduces (f .file) out r new → AtStart (f .file) r new
+  reduces-to : (r : ReducedFile) (new : List ℕ) → Reduces (f .file) out r new → AtStart (f .file) out r new
   unfolding reportReduced reducedCounts
   reduces-to (made.Written l k) new p =
       let s = reducedFile (f .file) in
       let e = p .answered ∙ answers (reduceCauses (f .file) out) no-cause (reducedCounts (f .file)) in
       let there : l ≡ length s = cc (ap (λ (r : Report). r .values) e, length-said f) in
+      let left = p .left ∙ writes (reduceCauses (f .file) out) no-cause s out in
       record {
         bytes = l;
         regions = k;
         counted = refl;
-        start = ap (take l) (p .left ∙ writes (reduceCauses (f .file) out) no-cause s out) ∙ take-at s (drop (length s) out) l (sym there);
+        said = cc (ap (λ (r : Report). r .values) e);
+        start = ap (take l) left ∙ take-at s (drop (length s) out) l (sym there);
+        rest = ap (drop l) left ∙ drop-at s (drop (length s) out) l (sym there) ∙ ap (λ (n : ℕ). drop n out) (sym there);
       }
   reduces-to (made.Refused n) new p =
       let e = ap (λ (r : Report). length (r .values)) (p .answered ∙ answers (reduceCauses (f .file) out) no-cause (reducedCounts (f .file))) in

@@ -59,6 +59,11 @@ reducedThree =
 unfoldable pub fullPath : List ℕ
 fullPath = 7 ∷ 3 ∷ 1 ∷ 4 ∷ 6 ∷ 2 ∷ 5 ∷ 8 ∷ []
 
+-- the reduced file of a family's file; naming it opens every definition on the way
+reducedOf : Family → List ℕ
+unfolding region eightWith five oneLeaf reducedEight reducedThree fullPath tabulate sum numberAt bytesOf peptidesUpTo lengthAt regionAt familyOf regionFields fields mark fileOf rangeOf rangesOf has card count some those sumOver within inside justInside parts outermost outside totalWithin total value bound full isTaken takenBytes selected takenOf among entry curveValues markAt curveMarks largestUpTo cutOf rising falling grid firstOf lastOf dead live livePeptides hasStretch smallestZ merged stretchAt stretches room isKept isDeadRun reducedAt reduced endsLeaf leafLengths regionOf writtenFamily reducedFamily reducedFile
+reducedOf F = reducedFile (fileOf F)
+
 -- E1 to E10, on the definitions.
 pub record Examples : Type 0 where
   -- the values and the marks of the program's output
@@ -84,7 +89,7 @@ pub record Examples : Type 0 where
   pub E10 : reducedFile (fileOf (oneLeaf 3 (region 1 1 5 ∷ []))) ≡ reducedFile (fileOf (oneLeaf 3 []))
 
 pub examples : Examples
-unfolding region eightWith five oneLeaf reducedEight reducedThree fullPath tabulate sum numberAt bytesOf peptidesUpTo lengthAt regionAt familyOf regionFields fields mark fileOf rangeOf rangesOf has card count some those sumOver within inside justInside parts outermost outside totalWithin total value bound full isTaken takenBytes selected takenOf among entry curveValues markAt curveMarks largestUpTo cutOf rising falling grid firstOf lastOf dead live livePeptides hasStretch smallestZ merged stretchAt stretches room isKept isDeadRun reducedAt reduced endsLeaf leafLengths regionOf writtenFamily reducedFamily reducedFile
+unfolding reducedOf
 examples =
     record {
       E1 = (refl, refl);
@@ -98,3 +103,12 @@ examples =
       E9 = refl;
       E10 = refl;
     }
+
+-- No copy of its input and no one fixed file is the reduction: it takes E10 to another file, and E3 and E8 to different ones.
+pub not-a-copy : reducedFile (fileOf (oneLeaf 3 (region 1 1 5 ∷ []))) ≢ fileOf (oneLeaf 3 (region 1 1 5 ∷ []))
+unfolding reducedOf
+not-a-copy e = let h : _≡_ {A = ℕ} 0 1 = ap (λ s. getD s 8 0) e in omega arith
+
+pub not-one-file : reducedFile (fileOf (eightWith 3)) ≢ reducedFile (fileOf (oneLeaf 3 []))
+unfolding reducedOf
+not-one-file e = let h : _≡_ {A = ℕ} 8 3 = ap (λ s. getD s 4 0) e in omega arith

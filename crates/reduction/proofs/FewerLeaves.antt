@@ -12,24 +12,12 @@ use Rattle.reader.specs.Family.{Family, leaves, region, peptidesUpTo}
 use Rattle.bounds.specs.Ranges.{Range, Peptides, card, rangeOf, rangesOf}
 use Rattle.bounds.proofs.Members.{le-or-lt, refuted}
 use Rattle.bounds.proofs.Laminar.{Laminar}
+use Rattle.bounds.proofs.Family.{upTo-mono}
 use Rattle.reduction.specs.Reduction.{reduced, endsLeaf, reducedFamily}
 use Rattle.reduction.proofs.Counts.{card-step}
 use Rattle.reduction.proofs.Cuts.{Edge, cut-edge}
 use Rattle.reduction.proofs.Regions.{region-place}
 use Rattle.reduction.proofs.WrittenFamily.{written-leaves}
-
--- more leaves have no fewer peptides
-
-sum-take : (i j : ℕ) (L : List ℕ) → i ≤ j → sum (take i L) ≤ sum (take j L)
-unfolding sum
-sum-take zero j L h = omega arith
-sum-take (suc i) zero L h = absurd (omega arith)
-sum-take (suc i) (suc j) [] h = omega arith
-sum-take (suc i) (suc j) (x ∷ L) h = omega (arith, sum-take i j L (omega arith))
-
-upTo-mono : (F : Family) (i j : ℕ) → i ≤ j → peptidesUpTo F i ≤ peptidesUpTo F j
-unfolding peptidesUpTo
-upTo-mono F i j h = sum-take i j (F .lengths) h
 
 module _ (F : Family) (sums : sum (F .lengths) ≡ F .peptides) (l : Laminar (F .peptides) (rangesOf F)) where
   -- the leaf ends of the reduced family

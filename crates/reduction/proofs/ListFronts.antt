@@ -18,11 +18,10 @@ use Rattle.reader.proofs.Lists.{length-tabulate, getD-tabulate}
 use Rattle.reader.proofs.Climbing.{parent-is}
 use Rattle.bounds.specs.Ranges.{Range, rangeOf, rangesOf}
 use Rattle.bounds.proofs.Members.{test, le-or-lt}
-use Rattle.bounds.proofs.Family.{ranges-length}
+use Rattle.bounds.proofs.Family.{ranges-length, range-at}
 use Rattle.reduction.specs.Reduction.{live}
 use Rattle.reduction.specs.Steps.{Begins, liveBytes, firstLive, lastLive, firstsLive, lastsLive}
 use Rattle.reduction.specs.Passes.{range, Known, LiveUpTo, FirstsUpTo, LastsUpTo}
-use Rattle.reduction.proofs.DeadPeptides.{range-at}
 
 pub begins-with : (new whole : List ℕ) → length new ≤ length whole → ((i : ℕ) → i < length new → getD whole i 0 ≡ getD new i 0) → Begins new whole
 begins-with new whole room h =

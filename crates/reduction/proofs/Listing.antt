@@ -14,9 +14,8 @@ use Rattle.reader.proofs.Below.{none-below}
 use Rattle.reader.proofs.Bools.{or-neither}
 use Rattle.bounds.specs.Ranges.{Peptides}
 use Rattle.bounds.specs.Curves.{among, cause11, cause12, repeated, cause13}
-use Rattle.bounds.specs.Calls.{pathCauses}
+use Rattle.bounds.specs.Calls.{pathCauses, IsPath}
 use Rattle.bounds.proofs.Members.{In, in-at, some-in, some-found, clash}
-use Rattle.reduction.specs.Alike.{IsPath}
 
 -- from the last to the first
 pub listing : ℕ → Peptides → List ℕ

@@ -17,6 +17,7 @@ use Rattle.reader.proofs.Parsed.{length-leaf}
 use Rattle.reader.proofs.Walk.{up-to-next, up-to-end}
 use Rattle.bounds.specs.Ranges.{rangeOf}
 use Rattle.bounds.proofs.Members.{test, le-or-lt}
+use Rattle.bounds.proofs.Family.{upTo-mono}
 use Rattle.reduction.specs.Passes.{range, Lowered, Begun, Open, Ends}
 
 -- what is below k + 1 is k or below k
@@ -42,20 +43,9 @@ more-stored L k v f room old new i l =
 pub next-leaf : (F : Family) (j : ℕ) → peptidesUpTo F j + leafLength F (j + 1) ≡ peptidesUpTo F (j + 1)
 next-leaf F j = omega (arith, up-to-next F j, length-leaf F j, ap (leafLength F) (add-one j))
 
-rises-by : (F : Family) (i n : ℕ) → peptidesUpTo F i ≤ peptidesUpTo F (i + n)
-rises-by F i zero = rw add-zero (omega arith)
-rises-by F i (suc n) = subst (λ (k : ℕ). peptidesUpTo F i ≤ peptidesUpTo F k) (regroup i n) (omega (arith, rises-by F i n, up-to-next F (i + n)))
-  where
-    regroup : (i n : ℕ) → i + n + 1 ≡ i + suc n
-    regroup i n = omega arith
-
--- more leaves have no fewer peptides
-pub rises : (F : Family) (i j : ℕ) → i ≤ j → peptidesUpTo F i ≤ peptidesUpTo F j
-rises F i j h = subst (λ (k : ℕ). peptidesUpTo F i ≤ peptidesUpTo F k) (omega arith) (rises-by F i (j - i))
-
 module _ (F : Family) (w : WellFormed F) where
   pub upTo-small : (j : ℕ) → j ≤ leaves F → peptidesUpTo F j ≤ F .peptides
-  upTo-small j h = omega (arith, rises F j (leaves F) h, up-to-end F (leaves F) (omega arith), w .lengths-sum)
+  upTo-small j h = omega (arith, upTo-mono F j (leaves F) h, up-to-end F (leaves F) (omega arith), w .lengths-sum)
 
   first-rises : (i j : ℕ) → i ≤ j → j < regionCount F → region F i .first ≤ region F j .first
   first-rises i j h l = ⊎-elim (λ e. rw e (omega arith)) (λ b. w .ordered .rising i j b l) (eq-or-lt-of-le h)

@@ -13,7 +13,7 @@ use Rattle.reader.specs.Nesting
 use Rattle.reader.specs.WellFormed.{Ordered, NestedBelow}
 use Rattle.bounds.specs.Ranges.{Range, rangeOf, rangesOf, within, inside, sumOver}
 use Rattle.bounds.proofs.Members.{In, place, in-at, bit}
-use Rattle.bounds.proofs.Family.{ranges-length, range-in}
+use Rattle.bounds.proofs.Family.{ranges-length, range-at, range-in}
 use Rattle.reduction.proofs.Grid.{Before, before-le, before-same, FileOrder}
 use Rattle.reduction.proofs.Plain.{Nest, apart, apart′, within as inner, around}
 use Rattle.reduction.proofs.Forest.{OnLeaves, Planted}
@@ -21,10 +21,6 @@ use Rattle.reduction.proofs.Pigeonhole.{howMany}
 
 abbrev noRegion : Region
 noRegion = record { first = 0; last = 0; z = 0 }
-
-range-at : (F : Family) (k : ℕ) → getD (rangesOf F) k (rangeOf F noRegion) ≡ rangeOf F (region F k)
-unfolding rangesOf region
-range-at F k = List·getD-map (rangeOf F) (F .regions) k noRegion
 
 -- a range of the list is that of a region
 pub region-place : (F : Family) (r : Range) → In r (rangesOf F) → (k : ℕ) × (k < regionCount F) × (r ≡ rangeOf F (region F k))

@@ -3,13 +3,8 @@ use Prim.Native.Nat.{ℕ}
 use mathlib.Core.List.{List}
 use mathlib.Core.Path.{_≡_}
 use Rattle.reader.specs.Family.{Family}
-use Rattle.reader.specs.Causes.{firstCause}
 use Rattle.bounds.specs.Curves.{curveValues}
-use Rattle.bounds.specs.Calls.{pathCauses}
-
--- a path of m peptides: none of the causes 11 to 13 holds
-abbrev pub IsPath : ℕ → List ℕ → Type 0
-IsPath m path = firstCause (pathCauses m path) ≡ 0
+use Rattle.bounds.specs.Calls.{IsPath}
 
 -- equal m and, for every path, equal curves
 pub record Alike (F G : Family) : Type 0 where

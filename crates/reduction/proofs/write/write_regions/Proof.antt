@@ -20,7 +20,7 @@ abbrev μ-loop : tie.MeasureT-loop
 μ-loop m n from to bounds counts at out₀ k₀ out k = n - k
 
 -- the k-th range lies on the line
-record OnLine (c : tie.In-loop Inv-loop μ-loop) : Type 0 where
+record KthRange (c : tie.In-loop Inv-loop μ-loop) : Type 0 where
   here : c .before .loop .k < c .before .before .before .before .before .before .before .args .n
   first : 1 ≤ getD (now (c .before .before .before .before .before .before .before .args .from)) (c .before .loop .k) 0
   order : getD (now (c .before .before .before .before .before .before .before .args .from)) (c .before .loop .k) 0 ≤ getD (now (c .before .before .before .before .before .before .before .args .to)) (c .before .loop .k) 0
@@ -28,7 +28,7 @@ record OnLine (c : tie.In-loop Inv-loop μ-loop) : Type 0 where
   few : c .before .before .before .before .before .before .before .args .m ≤ 4096
   before : getD (now (c .before .before .before .before .before .before .before .args .counts)) (getD (now (c .before .before .before .before .before .before .before .args .from)) (c .before .loop .k) 0 - 1) 0 ≤ c .before .before .before .before .before .before .before .args .m
 
-on-line : (c : tie.In-loop Inv-loop μ-loop) → OnLine c
+on-line : (c : tie.In-loop Inv-loop μ-loop) → KthRange c
 on-line c =
     let p = c .before .before .before .before .before .before .before .pre in
     let k = c .before .loop .k in
