@@ -15,6 +15,9 @@
  * No function keeps anything from one call to the next, allocates, or fails otherwise than by the number it returns.
  * All may be called from several threads at once. They need up to 512 KB of stack.
  *
+ * BUILDING. `rt staticlib phf` writes target/staticlib/libphf.a, to link with a program. A shared object is made of it by
+ *     cc -shared -o libphf.so -Wl,--whole-archive target/staticlib/libphf.a -Wl,--no-whole-archive
+ *
  * THE NUMBER. Each answer has a field `number`: 0 if the call did its work, else the number of the first cause below
  * that holds. A declined call writes to no buffer. Fields of an answer that have no value are 0.
  *

@@ -2,6 +2,7 @@
 
 use phf_tests::compare;
 use phf_tests::families::{binary_tree, chain, random_family, towers, Bounds};
+use phf_tests::phf;
 use phf_tests::random::{cases, Random};
 use phf_tests::reference::{file_of, Family};
 
@@ -87,4 +88,31 @@ fn towers_of_sixty_four() {
         let family = towers(random, 4096, 64, Bounds::Mixed);
         all_calls(random, &family);
     });
+}
+
+/// The header promises that 512 KB of stack are enough; Rust's own thread takes a little of them here.
+#[test]
+fn half_a_megabyte_of_stack_is_enough() {
+    let random = &mut Random::new(9);
+    let deep = file_of(&towers(random, 4096, 64, Bounds::Mixed));
+    let wide = file_of(&binary_tree(random, 4096, 1, Bounds::Mixed));
+    let path = random.order(4096);
+    let calls = move || {
+        for file in [&deep, &wide] {
+            let mut values = vec![0; 4097];
+            let mut bytes = vec![0; file.len()];
+            assert_eq!(phf::bound(file, &[1; 4096], &mut bytes).number, 0);
+            let answer = phf::curve(file, &path, &mut values, &mut bytes);
+            assert_eq!(answer.number, 0);
+            assert_eq!(phf::cut(file, &path, 1, 10).number, 0);
+            assert_eq!(phf::reduce(file, &mut bytes).number, 0);
+            assert_eq!(phf::same(file, file).same, 1);
+        }
+    };
+    std::thread::Builder::new()
+        .stack_size(512 * 1024)
+        .spawn(calls)
+        .unwrap()
+        .join()
+        .unwrap();
 }
