@@ -11,16 +11,21 @@ fn byte_at(s: &[u8], at: usize) -> u8
     if at < s.len() { s[at] } else { 0 }
 }
 
-// The number at an offset; what lies past the end counts as 0.
+// The number at an offset; what lies past the end counts as 0. One comparison settles both bytes: the walks spend their
+// time here.
 pub fn number_at(s: &[u8], at: usize) -> u16
     ensures { λ r. ⌜ r ≡ numberAt (now (s .entry)) at ⌝ }
 {
-    if at < s.len() {
+    let n = s.len();
+    if n == 0 {
+        return 0;
+    }
+    if at < n - 1 {
         let low = s[at];
-        let high = byte_at(s, at + 1);
+        let high = s[at + 1];
         (low as u16) + 256 * (high as u16)
     } else {
-        0
+        byte_at(s, at) as u16
     }
 }
 

@@ -3,7 +3,7 @@
 
 use phf_tests::families::{binary_tree, chain, eight_peptides, family, towers, Bounds};
 use phf_tests::random::Random;
-use phf_tests::reference::{file_of, Family, Region};
+use phf_tests::reference::{check, file_of, Family, Region};
 use phf_tests::{fast, phf};
 use std::hint::black_box;
 use std::time::{Duration, Instant};
@@ -264,43 +264,65 @@ fn calls_table() -> bool {
     all_met
 }
 
+/// The binary tree of the source's experiment, with z as in its scenarios 1 and 3, the size of the region, or mixed.
+fn source_family(random: &mut Random, length: usize, trivial: bool) -> Family {
+    let mut family = binary_tree(random, 512, length, Bounds::Mixed);
+    if trivial {
+        for region in &mut family.regions {
+            region.z = (region.last - region.first + 1) * length as u16;
+        }
+    }
+    family
+}
+
+fn reduced(family: &Family) -> Family {
+    let file = file_of(family);
+    let mut out = vec![0; file.len()];
+    let answer = phf::reduce(&file, &mut out);
+    assert_eq!(answer.number, 0);
+    check(&out[..answer.length as usize]).unwrap()
+}
+
 /// The curve of the source's experiment, for each step of the path.
 fn source_table() {
-    println!(
-        "| leaves of | path | library ns per step | Rust, the same walk | Rust, table of leaves |"
-    );
-    println!("|---|---|---|---|---|");
+    println!("| m | z | N | K | path | library ns per step | Rust, the same walk | Rust, table of leaves |");
+    println!("|---|---|---|---|---|---|---|---|");
     let random = &mut Random::new(2);
-    for length in [2, 8] {
-        let family = binary_tree(random, 512, length, Bounds::Mixed);
-        let m = family.peptides as usize;
-        let paths = [
-            ("1 2 3 ..", (1..=m as u16).collect()),
-            ("random", random.order(m)),
-        ];
-        for (name, path) in paths {
-            let input = Input::new(name, &family, path);
-            let mut rooms = [Room::new(), Room::new(), Room::new()];
-            let [one, two, three] = &mut rooms;
-            let found = measure(&mut [
-                &mut || (PAIRS[2].library)(&input, one),
-                &mut || (PAIRS[2].rust)(&input, two),
-                &mut || {
-                    fast::curve_with_table(
-                        black_box(&input.file),
-                        &input.path,
-                        &mut three.values,
-                        &mut three.marks,
-                    )
-                },
-            ]);
-            assert_eq!(rooms[0].values, rooms[2].values);
-            println!(
-                "| {length} | {name} | {:.0} | {:.0} | {:.0} |",
-                found[0] / m as f64,
-                found[1] / m as f64,
-                found[2] / m as f64
-            );
+    for (length, trivial) in [(2, true), (2, false), (8, true), (8, false)] {
+        let whole = source_family(random, length, trivial);
+        let m = whole.peptides as usize;
+        for (state, family) in [("", whole.clone()), (", reduced", reduced(&whole))] {
+            let paths = [
+                ("1 2 3 ..", (1..=m as u16).collect()),
+                ("random", random.order(m)),
+            ];
+            for (name, path) in paths {
+                let input = Input::new(name, &family, path);
+                let mut rooms = [Room::new(), Room::new(), Room::new()];
+                let [one, two, three] = &mut rooms;
+                let found = measure(&mut [
+                    &mut || (PAIRS[2].library)(&input, one),
+                    &mut || (PAIRS[2].rust)(&input, two),
+                    &mut || {
+                        fast::curve_with_table(
+                            black_box(&input.file),
+                            &input.path,
+                            &mut three.values,
+                            &mut three.marks,
+                        )
+                    },
+                ]);
+                assert_eq!(rooms[0].values, rooms[2].values);
+                println!(
+                    "| {m} | {}{state} | {} | {} | {name} | {:.0} | {:.0} | {:.0} |",
+                    if trivial { "size" } else { "mixed" },
+                    family.lengths.len(),
+                    family.regions.len(),
+                    found[0] / m as f64,
+                    found[1] / m as f64,
+                    found[2] / m as f64
+                );
+            }
         }
     }
 }
@@ -436,7 +458,7 @@ fn growth_table() {
 fn main() {
     println!("### Calls\n");
     let met = calls_table();
-    println!("\n### The experiment of the source: 512 leaves, 1,023 regions\n");
+    println!("\n### The experiment of the source\n");
     source_table();
     println!("\n### Hostile files\n");
     let worst = check_table();
