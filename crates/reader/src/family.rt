@@ -3,7 +3,7 @@ use crate::bytes::number_at;
 ghost use mathlib.Core.Path.{_≡_};
 ghost use Prim.Native.Nat.{_<_};
 ghost use Rattle.reader.specs.Bytes.{numberAt};
-ghost use Rattle.reader.specs.Family.{familyOf, leafLength, leafOf, regionAt, region};
+ghost use Rattle.reader.specs.Family.{familyOf, leaves, regionCount, leafLength, leafOf, regionAt, region};
 ghost use Rattle.reader.specs.Calls.{held};
 
 // The number of a leaf, 1 to N.
@@ -17,6 +17,27 @@ pub struct Region {
     pub first: Leaf,
     pub last: Leaf,
     pub z: u16,
+}
+
+// m, the number of peptides, as the header has it.
+pub fn peptide_count(file: &[u8]) -> u16
+    ensures { λ r. ⌜ r ≡ familyOf (now (file .entry)) .peptides ⌝ }
+{
+    number_at(file, 4)
+}
+
+// N, the number of leaves, as the header has it.
+pub fn leaf_count(file: &[u8]) -> u16
+    ensures { λ r. ⌜ r ≡ leaves (familyOf (now (file .entry))) ⌝ }
+{
+    number_at(file, 6)
+}
+
+// K, the number of regions, as the header has it.
+pub fn region_count(file: &[u8]) -> u16
+    ensures { λ r. ⌜ r ≡ regionCount (familyOf (now (file .entry))) ⌝ }
+{
+    number_at(file, 8)
 }
 
 // The length of a leaf; 0 where the file has no leaf of that number.
