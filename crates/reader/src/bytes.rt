@@ -1,5 +1,6 @@
 // Bytes, and numbers of 2 bytes, low byte first.
 ghost use mathlib.Core.Path.{_≡_};
+ghost use Prim.Native.Nat.{min};
 ghost use lib.ListN.{getD};
 ghost use Rattle.reader.specs.Bytes.{numberAt};
 ghost use Rattle.reader.specs.Lists.{sameList};
@@ -27,6 +28,13 @@ pub fn number_at(s: &[u8], at: usize) -> u16
     } else {
         byte_at(s, at) as u16
     }
+}
+
+// The smaller of two numbers.
+pub fn smaller(a: u16, b: u16) -> u16
+    ensures { λ r. ⌜ r ≡ min a b ⌝ }
+{
+    if a <= b { a } else { b }
 }
 
 // Whether two slices hold the same bytes.
