@@ -1,20 +1,23 @@
 -- The leaf of a peptide: the walk along the leaf lengths, and what it finds.
-use Prim.Native.Nat.{ℕ, zero, suc, _+_, _-_, _<_, _≤_}
+use Prim.Native.Nat.{ℕ, zero, suc, _+_, _*_, _-_, _<_, _≤_}
 use native.Mathlib.Omega.{arith}
 use native.Mathlib.Nat.{eq-or-lt-of-le}
 use native.Mathlib.Numerals.{add-one}
 use mathlib.Core.Bool.{true, false, cond}
 use mathlib.Core.List.{List, [], _∷_}
-use mathlib.Core.Path.{_≡_, refl, sym, ap, _∙_}
+use mathlib.Core.Path.{_≡_, refl, sym, ap, ap₂, _∙_}
 use mathlib.Core.Logic.{⊎-elim}
 use lib.ListN.{length, getD, take, drop, drop-of-length-le}
 use lib.Seq.{drop-cons, take-all}
 use lib.Dec.{leb, ltb}
 use borrow.Author.Tests.{ltb-true, ltb-false, leb-true, leb-false, le-leb, lt-leb}
 use Rattle.reader.specs.Lists.{sum}
-use Rattle.reader.specs.Family.{Family, leaves, leafAfter, leafOf, peptidesUpTo}
+use Rattle.reader.specs.Bytes.{numberAt}
+use Rattle.reader.specs.Family.{Family, familyOf, leaves, leafAfter, leafOf, peptidesUpTo}
+use Rattle.reader.specs.LeafWalk.{eightLengths}
 use Rattle.reader.proofs.Bools.{test}
 use Rattle.reader.proofs.Lists.{sum-take-suc}
+use Rattle.reader.proofs.Parsed.{length-number}
 
 module _ (F : Family) where
   pub walk-starts : (p : ℕ) → leafOf F p ≡ leafAfter 0 (drop 0 (F .lengths)) p
@@ -55,6 +58,21 @@ module _ (F : Family) where
   unfolding peptidesUpTo sum
   nothing-before = refl
 
+  -- n leaves that end before the peptide are passed at once; q is what they leave of its number
+  pub walk-passes :
+      (n j p q : ℕ) → j + n ≤ leaves F → p + peptidesUpTo F j ≡ q + peptidesUpTo F (j + n) → 1 ≤ q
+      → leafAfter j (drop j (F .lengths)) p ≡ leafAfter (j + n) (drop (j + n) (F .lengths)) q
+  walk-passes zero j p q l e some =
+      let here : j ≡ j + 0 = omega arith in
+      ap₂ (λ (i x : ℕ). leafAfter i (drop i (F .lengths)) x) here (omega (arith, e, ap (peptidesUpTo F) here))
+  walk-passes (suc n) j p q l e some =
+      let length = getD (F .lengths) (j + n) 0 in
+      let next : j + n + 1 ≡ j + suc n = omega arith in
+      let sums : peptidesUpTo F (j + suc n) ≡ peptidesUpTo F (j + n) + length = ap (peptidesUpTo F) (sym next) ∙ up-to-next (j + n) in
+      walk-passes n j p (q + length) (omega arith) (omega (arith, e, sums)) (omega arith)
+      ∙ walk-goes-on F (j + n) (q + length) (omega arith) (omega arith)
+      ∙ ap₂ (λ (i x : ℕ). leafAfter i (drop i (F .lengths)) x) next (omega arith)
+
   at-start : {p : ℕ} → 1 ≤ p → (i : ℕ) → i ≤ 0 → peptidesUpTo F i < p
   at-start some zero h = omega (arith, nothing-before)
   at-start some (suc i) h = absurd (omega arith)
@@ -92,3 +110,26 @@ module _ (F : Family) where
   leaf-found p some most =
       rw (walk-starts F p)
       (walk-finds (leaves F) p 0 p (omega arith) (omega (arith, nothing-before)) some most (at-start some))
+
+-- The lengths in a file.
+module _ (s : List ℕ) where
+  one-more : (j i at : ℕ) → j < numberAt s 6 → i ≡ j + 1 → at ≡ 16 + 2 * j → peptidesUpTo (familyOf s) i ≡ peptidesUpTo (familyOf s) j + numberAt s at
+  one-more j i at l e a =
+      ap (peptidesUpTo (familyOf s)) e ∙ up-to-next (familyOf s) j
+      ∙ ap (λ (n : ℕ). peptidesUpTo (familyOf s) j + n) (length-number s j l ∙ ap (numberAt s) (sym a))
+
+  pub eight-more : (j : ℕ) → j + 8 ≤ numberAt s 6 → peptidesUpTo (familyOf s) (j + 8) ≡ peptidesUpTo (familyOf s) j + eightLengths s (16 + 2 * j)
+  unfolding eightLengths
+  eight-more j l =
+      let at = 16 + 2 * j in
+      omega (
+        arith,
+        one-more j (j + 1) at (omega arith) refl refl,
+        one-more (j + 1) (j + 2) (at + 2) (omega arith) (omega arith) (omega arith),
+        one-more (j + 2) (j + 3) (at + 4) (omega arith) (omega arith) (omega arith),
+        one-more (j + 3) (j + 4) (at + 6) (omega arith) (omega arith) (omega arith),
+        one-more (j + 4) (j + 5) (at + 8) (omega arith) (omega arith) (omega arith),
+        one-more (j + 5) (j + 6) (at + 10) (omega arith) (omega arith) (omega arith),
+        one-more (j + 6) (j + 7) (at + 12) (omega arith) (omega arith) (omega arith),
+        one-more (j + 7) (j + 8) (at + 14) (omega arith) (omega arith) (omega arith),
+      )

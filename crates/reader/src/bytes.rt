@@ -1,7 +1,7 @@
 // Bytes, and numbers of 2 bytes, low byte first.
 ghost use mathlib.Core.Path.{_≡_};
-ghost use Prim.Native.Nat.{min};
-ghost use lib.ListN.{getD};
+ghost use Prim.Native.Nat.{_+_, _≤_, min};
+ghost use lib.ListN.{length, getD};
 ghost use Rattle.reader.specs.Bytes.{numberAt};
 ghost use Rattle.reader.specs.Lists.{sameList};
 
@@ -10,6 +10,16 @@ fn byte_at(s: &[u8], at: usize) -> u8
     ensures { λ r. ⌜ r ≡ getD (now (s .entry)) at 0 ⌝ }
 {
     if at < s.len() { s[at] } else { 0 }
+}
+
+// The number whose two bytes both lie in the slice.
+pub(crate) fn number_within(s: &[u8], at: usize) -> u16
+    requires { ⌜ at + 2 ≤ length (now s) ⌝ }
+    ensures { λ r. ⌜ r ≡ numberAt (now (s .entry)) at ⌝ }
+{
+    let low = s[at];
+    let high = s[at + 1];
+    (low as u16) + 256 * (high as u16)
 }
 
 // The number at an offset; what lies past the end counts as 0. One comparison settles both bytes: the walks spend their
@@ -22,9 +32,7 @@ pub fn number_at(s: &[u8], at: usize) -> u16
         return 0;
     }
     if at < n - 1 {
-        let low = s[at];
-        let high = s[at + 1];
-        (low as u16) + 256 * (high as u16)
+        number_within(s, at)
     } else {
         byte_at(s, at) as u16
     }

@@ -123,11 +123,14 @@ pub(crate) fn misordered_region(file: &[u8]) -> bool
     ensures { λ r. ⌜ r ≡ cause8 (familyOf (now (file .entry))) ⌝ }
 {
     let regions = number_at(file, 8);
+    let mut r = region_at(file, 0);
     let mut k = 0;
     while k + 1 < regions {
-        if not_before(region_at(file, k), region_at(file, k + 1)) {
+        let q = region_at(file, k + 1);
+        if not_before(r, q) {
             return true;
         }
+        r = q;
         k += 1;
     }
     false

@@ -1,9 +1,12 @@
 // Leaves, peptides and regions of a family file.
 use crate::bytes::number_at;
+use crate::bytes::number_within;
 ghost use mathlib.Core.Path.{_≡_};
-ghost use Prim.Native.Nat.{_<_};
+ghost use Prim.Native.Nat.{_+_, _<_, _≤_};
+ghost use lib.ListN.{length};
 ghost use Rattle.reader.specs.Bytes.{numberAt};
 ghost use Rattle.reader.specs.Family.{familyOf, leaves, regionCount, leafLength, leafOf, regionAt, region};
+ghost use Rattle.reader.specs.LeafWalk.{eightLengths, PassedTo};
 ghost use Rattle.reader.specs.Calls.{held};
 
 // The number of a leaf, 1 to N.
@@ -54,13 +57,63 @@ pub fn leaf_length(file: &[u8], leaf: Leaf) -> u16
     number_at(file, 14 + 2 * (j as usize))
 }
 
+// Where a walk along the leaf lengths stands: the last leaf passed, 0 before the first, and the peptide's number less the
+// peptides passed.
+struct Passed {
+    leaf: Leaf,
+    left: u16,
+}
+
+// The lengths of eight leaves added up, from the offset of the first one.
+fn eight_lengths(file: &[u8], at: usize) -> u32
+    requires { ⌜ at + 16 ≤ length (now file) ⌝ }
+    ensures { λ r. ⌜ r ≡ eightLengths (now (file .entry)) at ⌝ }
+{
+    let a = (number_within(file, at) as u32) + (number_within(file, at + 2) as u32);
+    let b = (number_within(file, at + 4) as u32) + (number_within(file, at + 6) as u32);
+    let c = (number_within(file, at + 8) as u32) + (number_within(file, at + 10) as u32);
+    let d = (number_within(file, at + 12) as u32) + (number_within(file, at + 14) as u32);
+    a + b + c + d
+}
+
+// Passes eight leaves at a time, while these end before the peptide: a walk spends most of its time here.
+fn pass_eights(file: &[u8], peptide: Peptide) -> Passed
+    ensures { λ r. ⌜ PassedTo (familyOf (now (file .entry))) (peptide .0) (r .leaf .0) (r .left) ⌝ }
+{
+    let leaves = leaf_count(file);
+    let mut left = peptide.0;
+    let mut j = 0;
+    if file.len() < 16 + 2 * (leaves as usize) {
+        return Passed {
+            leaf: Leaf(j),
+            left,
+        };
+    }
+    while 8 <= leaves - j {
+        let sum = eight_lengths(file, 16 + 2 * (j as usize));
+        if (left as u32) <= sum {
+            return Passed {
+                leaf: Leaf(j),
+                left,
+            };
+        }
+        left = left - (sum as u16);
+        j += 8;
+    }
+    Passed {
+        leaf: Leaf(j),
+        left,
+    }
+}
+
 // The leaf of a peptide, found by walking the leaf lengths; leaf 0 where they end before it.
 pub fn leaf_of(file: &[u8], peptide: Peptide) -> Leaf
     ensures { λ r. ⌜ r .0 ≡ leafOf (familyOf (now (file .entry))) (peptide .0) ⌝ }
 {
-    let leaves = number_at(file, 6);
-    let mut left = peptide.0;
-    let mut j = 0;
+    let leaves = leaf_count(file);
+    let passed = pass_eights(file, peptide);
+    let mut left = passed.left;
+    let mut j = passed.leaf.0;
     while j < leaves {
         let length = number_at(file, 16 + 2 * (j as usize));
         if left <= length {
@@ -72,15 +125,23 @@ pub fn leaf_of(file: &[u8], peptide: Peptide) -> Leaf
     Leaf(0)
 }
 
-// The k-th region as the bytes have it.
+// The k-th region as the bytes have it. One comparison settles all six bytes: the check spends its time here.
 pub(crate) fn region_at(file: &[u8], k: u16) -> Region
     ensures { λ r. ⌜ held r ≡ regionAt (now (file .entry)) k ⌝ }
 {
     let at = 16 + 2 * (number_at(file, 6) as usize) + 6 * (k as usize);
-    Region {
-        first: Leaf(number_at(file, at)),
-        last: Leaf(number_at(file, at + 2)),
-        z: number_at(file, at + 4),
+    if at + 6 <= file.len() {
+        Region {
+            first: Leaf(number_within(file, at)),
+            last: Leaf(number_within(file, at + 2)),
+            z: number_within(file, at + 4),
+        }
+    } else {
+        Region {
+            first: Leaf(number_at(file, at)),
+            last: Leaf(number_at(file, at + 2)),
+            z: number_at(file, at + 4),
+        }
     }
 }
 

@@ -1,6 +1,7 @@
 // How the regions nest: the parent of each region, and causes 9 and 10. In file order the innermost region around
 // a region is found by climbing along the parents from the region before it, so all climbs together are linear.
 use crate::bytes::number_at;
+use crate::family::Leaf;
 use crate::family::region_at;
 ghost use mathlib.Core.Path.{_≡_};
 ghost use Prim.Native.Nat.{ℕ, _<_, _≤_};
@@ -11,16 +12,17 @@ ghost use Rattle.reader.specs.WellFormed.{Ordered, Nested};
 ghost use Rattle.reader.specs.Climb.{Climbing, Climbed, endsBefore, Filled, oneDeeper};
 
 // The number of the innermost region before the k-th one that ends at its first leaf or later; 0 if there is none.
-fn climb(file: &[u8], parents: &[u16], k: u16, first: u16) -> u16
+fn climb(file: &[u8], parents: &[u16], k: u16, first: Leaf) -> u16
     requires { ⌜ Climbing (familyOf (now file)) (now parents) k ⌝ }
-    requires { ⌜ first ≡ region (familyOf (now file)) k .first ⌝ }
+    requires { ⌜ first .0 ≡ region (familyOf (now file)) k .first ⌝ }
     ensures { λ r. ⌜ Climbed (familyOf (now (file .entry))) k r ⌝ }
 {
+    let begin = first.0;
     let mut number = k;
     while number != 0 {
         let candidate = region_at(file, number - 1);
-        let last = candidate.last.0;
-        if first <= last {
+        let end = candidate.last.0;
+        if begin <= end {
             return number;
         }
         number = parents[(number - 1) as usize];
@@ -28,17 +30,18 @@ fn climb(file: &[u8], parents: &[u16], k: u16, first: u16) -> u16
     0
 }
 
-// Whether there is a region of that number and it ends before the leaf `last`.
-fn ends_before(file: &[u8], number: u16, last: u16) -> bool
+// Whether there is a region of that number and it ends before the leaf.
+fn ends_before(file: &[u8], number: u16, leaf: Leaf) -> bool
     requires { ⌜ number ≤ regionCount (familyOf (now file)) ⌝ }
-    ensures { λ r. ⌜ r ≡ endsBefore (familyOf (now (file .entry))) number last ⌝ }
+    ensures { λ r. ⌜ r ≡ endsBefore (familyOf (now (file .entry))) number (leaf .0) ⌝ }
 {
     if number == 0 {
         return false;
     }
     let r = region_at(file, number - 1);
     let end = r.last.0;
-    end < last
+    let place = leaf.0;
+    end < place
 }
 
 // Writes the parents; whether two regions cross.
@@ -51,8 +54,8 @@ pub(crate) fn fill_parents(file: &[u8], parents: &mut [u16]) -> bool
     let mut k = 0;
     while k < regions {
         let r = region_at(file, k);
-        let first = r.first.0;
-        let last = r.last.0;
+        let first = r.first;
+        let last = r.last;
         let number = climb(file, parents, k, first);
         if ends_before(file, number, last) {
             return true;

@@ -1,4 +1,4 @@
--- Two bytes make a number below 65,536; past the end both are 0, and after the last byte the high one is.
+-- Past the end both bytes are 0, and after the last byte the high one is.
 use native.Mathlib.Omega.{arith}
 use Prim.Native.Nat.{ℕ, _+_, _≤_}
 use mathlib.Core.List.{List}
@@ -23,36 +23,17 @@ returns c =
 sub-if2 : tie.Need-sub-if2
 sub-if2 c = search needs
 
-shared-slice-read-low : tie.Need-shared-slice-read-low
-shared-slice-read-low c = search needs
-
-add-high : tie.Need-add-high
-add-high c = search needs
-
-shared-slice-read-high : tie.Need-shared-slice-read-high
-shared-slice-read-high c = search needs
-
-cast-result : tie.Need-cast-result
-cast-result c = omega (arith, c .before .shared-slice-known2 .given (c .before .before .before .before .before .args .at))
-
-cast-result-2 : tie.Need-cast-result-2
-cast-result-2 c = omega (arith, c .shared-slice-known3 .given (c .before .before .before .before .before .args .at + 1))
-
-mul-result : tie.Need-mul-result
-mul-result c = omega (arith, c .shared-slice-known3 .given (c .before .before .before .before .before .args .at + 1))
-
-add-result : tie.Need-add-result
-add-result c = omega (arith, c .before .shared-slice-known2 .given (c .before .before .before .before .before .args .at), c .shared-slice-known3 .given (c .before .before .before .before .before .args .at + 1))
+number-within-requires : tie.Need-number-within-requires
+number-within-requires c κs = search needs
 
 byte-at-requires : tie.Need-byte-at-requires
 byte-at-requires c κs = search needs
 
-cast-result-3 : tie.Need-cast-result-3
-cast-result-3 c = search needs
+cast-result : tie.Need-cast-result
+cast-result c = search needs
 
 returns-2 : tie.Need-returns-2
-unfolding numberAt
-returns-2 c = omega arith
+returns-2 c = c .number-within .ensures
 
 returns-3 : tie.Need-returns-3
 unfolding numberAt
@@ -67,14 +48,8 @@ number-at-spec =
     (tie.spec
     returns
     sub-if2
-    shared-slice-read-low
-    add-high
-    shared-slice-read-high
-    cast-result
-    cast-result-2
-    mul-result
-    add-result
+    number-within-requires
     byte-at-requires
-    cast-result-3
+    cast-result
     returns-2
     returns-3)

@@ -1,4 +1,4 @@
--- The loop has found every region up to the k-th after the one before it.
+-- The loop has found every region up to the k-th, which it holds, after the one before it.
 use Prim.Native.Nat.{ℕ, _≤_, _-_, _+_}
 use native.Mathlib.Omega.{arith}
 use mathlib.Core.Bool.{false, not}
@@ -8,6 +8,7 @@ use Rattle.reader.specs.Lists.{someBelow}
 use Rattle.reader.specs.Bytes.{numberAt}
 use Rattle.reader.specs.Family.{Region, regionAt}
 use Rattle.reader.specs.Nesting.{before}
+use Rattle.reader.specs.Calls.{held}
 use Rattle.reader.proofs.Below.{none-below-zero, none-more, some-at}
 use Rattle.reader.proofs.Judged.{rise-at-bytes}
 use borrow.Author.Needs.{needs}
@@ -15,25 +16,35 @@ use Rattle.reader.proofs.causes.misordered_region.Statement.{statement}
 use Rattle.reader.proofs.causes.misordered_region.Tie as tie
 
 abbrev Inv-loop : tie.InvT-loop
-Inv-loop file regions k₀ k =
+Inv-loop file regions r₀ k₀ r k =
     (k ≤ regions - 1)
     × (regions ≡ numberAt file 8)
+    × (held r ≡ regionAt file k)
     × (someBelow k (λ i. not (before (regionAt file i) (regionAt file (i + 1)))) ≡ false)
 
 abbrev μ-loop : tie.MeasureT-loop
-μ-loop file regions k₀ k = regions - k
+μ-loop file regions r₀ k₀ r k = regions - k
+
+-- the test of the loop's body speaks of the k-th region and the next
+tested :
+    (c : tie.After-not-before Inv-loop μ-loop)
+    → c .not-before .result
+    ≡ not (before (regionAt (now (c .before .before .before .before .before .before .before .args .file)) (c .before .before .before .loop .k))
+    (regionAt (now (c .before .before .before .before .before .before .before .args .file)) (c .before .before .before .loop .k + 1)))
+tested c =
+    c .not-before .ensures ∙ ap₂ (λ (a b : Region). not (before a b)) (c .before .before .before .loop .inv .2) (c .before .region-at2 .ensures)
 
 number-at-requires : tie.Need-number-at-requires Inv-loop μ-loop
 number-at-requires c κs = search needs
 
+region-at-requires : tie.Need-region-at-requires Inv-loop μ-loop
+region-at-requires c κs = search needs
+
 loop-holds : tie.Need-loop-holds Inv-loop μ-loop
-loop-holds c = (omega arith, c .number-at .ensures, none-below-zero _)
+loop-holds c = (omega arith, c .before .number-at .ensures, c .region-at .ensures, none-below-zero _)
 
 add-loop : tie.Need-add-loop Inv-loop μ-loop
 add-loop c = search needs
-
-region-at-requires : tie.Need-region-at-requires Inv-loop μ-loop
-region-at-requires c κs = search needs
 
 add-region-at : tie.Need-add-region-at Inv-loop μ-loop
 add-region-at c = search needs
@@ -47,8 +58,7 @@ not-before-requires c κs = search needs
 returns : tie.Need-returns Inv-loop μ-loop
 returns c =
     let s = now (c .before .before .before .before .before .before .before .before .args .file) in
-    let here = c .before .not-before .ensures ∙ ap₂ (λ (a b : Region). not (before a b)) (c .before .before .before .region-at .ensures) (c .before .before .region-at2 .ensures) in
-    sym (rise-at-bytes s ∙ some-at _ (numberAt s 8 - 1) (c .before .before .before .before .before .loop .k) (omega arith) (sym here ∙ c .if1 .taken))
+    sym (rise-at-bytes s ∙ some-at _ (numberAt s 8 - 1) (c .before .before .before .before .loop .k) (omega arith) (sym (tested (c .before)) ∙ c .if1 .taken))
 
 add-k : tie.Need-add-k Inv-loop μ-loop
 add-k c = search needs
@@ -58,14 +68,14 @@ loop-less c = search needs
 
 loop-again : tie.Need-loop-again Inv-loop μ-loop
 loop-again c =
-    let here = c .before .not-before .ensures ∙ ap₂ (λ (a b : Region). not (before a b)) (c .before .before .before .region-at .ensures) (c .before .before .region-at2 .ensures) in
-    (omega arith, c .before .before .before .before .before .loop .inv .1, none-more _ _ (c .before .before .before .before .before .loop .inv .2) (sym here ∙ c .if1 .left))
+    let inv = c .before .before .before .before .loop .inv in
+    (omega arith, inv .1, c .before .before .region-at2 .ensures, none-more _ _ (inv .3) (sym (tested (c .before)) ∙ c .if1 .left))
 
 returns-2 : tie.Need-returns-2 Inv-loop μ-loop
 returns-2 c =
-    let s = now (c .before .before .before .before .args .file) in
+    let s = now (c .before .before .before .before .before .args .file) in
     let end : c .before .loop .k ≡ numberAt s 8 - 1 = omega arith in
-    sym (rise-at-bytes s ∙ (rw end at (c .before .loop .inv .2)))
+    sym (rise-at-bytes s ∙ (rw end at (c .before .loop .inv .3)))
 
 pub misordered-region-spec : {M : Type 1} → statement M
 misordered-region-spec =
@@ -74,9 +84,9 @@ misordered-region-spec =
     Inv-loop
     μ-loop
     number-at-requires
+    region-at-requires
     loop-holds
     add-loop
-    region-at-requires
     add-region-at
     region-at-requires-2
     not-before-requires

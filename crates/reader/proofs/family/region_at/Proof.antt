@@ -23,6 +23,24 @@ mul-at-2 c = search needs
 add-at-2 : tie.Need-add-at-2
 add-at-2 c = search needs
 
+add-if1 : tie.Need-add-if1
+add-if1 c = search needs
+
+number-within-requires : tie.Need-number-within-requires
+number-within-requires c κs = search needs
+
+add-number-within : tie.Need-add-number-within
+add-number-within c = search needs
+
+number-within-requires-2 : tie.Need-number-within-requires-2
+number-within-requires-2 c κs = search needs
+
+add-number-within-2 : tie.Need-add-number-within-2
+add-number-within-2 c = search needs
+
+number-within-requires-3 : tie.Need-number-within-requires-3
+number-within-requires-3 c κs = search needs
+
 number-at-requires-2 : tie.Need-number-at-requires-2
 number-at-requires-2 c κs = search needs
 
@@ -42,6 +60,10 @@ returns : tie.Need-returns
 unfolding held regionAt
 returns c = cc
 
+returns-2 : tie.Need-returns-2
+unfolding held regionAt
+returns-2 c = cc
+
 pub region-at-spec : {M : Type 1} → statement M
 region-at-spec =
     tie.close
@@ -52,9 +74,16 @@ region-at-spec =
     add-at
     mul-at-2
     add-at-2
+    add-if1
+    number-within-requires
+    add-number-within
+    number-within-requires-2
+    add-number-within-2
+    number-within-requires-3
     number-at-requires-2
     add-number-at
     number-at-requires-3
     add-number-at-2
     number-at-requires-4
-    returns)
+    returns
+    returns-2)

@@ -29,7 +29,7 @@ returns-2 c =
     let s = now (c .before .before .before .args .file) in
     let k = c .before .before .before .args .number - 1 in
     let e = c .region-at .ensures ∙ sym (region-read s k (omega (arith, regions-read s))) in
-    rw (ne-eqb (c .before .before .before .args .number) 0 (c .before .if1 .left)) (ap (λ (l : ℕ). ltb l (c .before .before .before .args .last)) (held-last _ (region (familyOf s) k) e))
+    rw (ne-eqb (c .before .before .before .args .number) 0 (c .before .if1 .left)) (ap (λ (l : ℕ). ltb l (c .before .before .before .args .leaf .0)) (held-last _ (region (familyOf s) k) e))
 
 pub ends-before-spec : {M : Type 1} → statement M
 ends-before-spec = tie.close (tie.spec returns sub-region-at region-at-requires returns-2)

@@ -33,10 +33,10 @@ here c = omega (arith, regions-read (now (c .before .before .before .before .bef
 -- the test of the loop's body speaks of the k-th region
 tested :
     (c : tie.After-ends-before Inv-loop μ-loop)
-    → c .ends-before .result ≡ endsBefore (familyOf (now (c .before .before .before .before .before .before .before .before .before .args .file))) (c .before .climb .result) (region (familyOf (now (c .before .before .before .before .before .before .before .before .before .args .file))) (c .before .before .before .before .before .loop .k) .last)
+    → c .ends-before .result ≡ endsBefore (familyOf (now (c .before .before .before .before .before .before .before .before .before .before .before .args .file))) (c .before .climb .result) (region (familyOf (now (c .before .before .before .before .before .before .before .before .before .before .before .args .file))) (c .before .before .before .before .before .before .before .loop .k) .last)
 tested c =
-    let s = now (c .before .before .before .before .before .before .before .before .before .args .file) in
-    rw (← (held-last _ _ (c .before .before .before .region-at .ensures ∙ sym (region-read s (c .before .before .before .before .before .loop .k) (omega (arith, c .before .before .before .before .loop-test .taken, c .before .before .before .before .before .loop .inv .1)))))) (c .ends-before .ensures)
+    let s = now (c .before .before .before .before .before .before .before .before .before .before .before .args .file) in
+    rw (← (held-last _ _ (c .before .before .before .before .before .region-at .ensures ∙ sym (region-read s (c .before .before .before .before .before .before .before .loop .k) (omega (arith, c .before .before .before .before .before .before .loop-test .taken, c .before .before .before .before .before .before .before .loop .inv .1)))))) (c .ends-before .ensures)
 
 number-at-requires : tie.Need-number-at-requires Inv-loop μ-loop
 number-at-requires c κs = search needs
@@ -49,15 +49,15 @@ region-at-requires c κs = search needs
 
 climb-requires : tie.Need-climb-requires Inv-loop μ-loop
 climb-requires c κs =
-    let s = now (c .before .before .before .before .before .before .before .args .file) in
-    let pre = c .before .before .before .before .before .before .before .pre in
-    let inv = c .before .before .before .loop .inv in (
-      record { ordered = pre .0; nested = inv .3; known = inv .4; here = here (c .before .before); room = omega (arith, pre .1, inv .2) },
-      held-first _ _ (c .before .region-at .ensures ∙ sym (region-read s (c .before .before .before .loop .k) (omega (arith, c .before .before .loop-test .taken, inv .1)))),
+    let s = now (c .before .before .before .before .before .before .before .before .before .args .file) in
+    let pre = c .before .before .before .before .before .before .before .before .before .pre in
+    let inv = c .before .before .before .before .before .loop .inv in (
+      record { ordered = pre .0; nested = inv .3; known = inv .4; here = here (c .before .before .before .before); room = omega (arith, pre .1, inv .2) },
+      held-first _ _ (c .before .before .before .region-at .ensures ∙ sym (region-read s (c .before .before .before .before .before .loop .k) (omega (arith, c .before .before .before .before .loop-test .taken, inv .1)))),
     )
 
 ends-before-requires : tie.Need-ends-before-requires Inv-loop μ-loop
-ends-before-requires c κs = omega (arith, c .climb .ensures .earlier, here (c .before .before .before))
+ends-before-requires c κs = omega (arith, c .climb .ensures .earlier, here (c .before .before .before .before .before))
 
 same-length : tie.Need-same-length Inv-loop μ-loop
 same-length c = search needs
@@ -65,7 +65,7 @@ same-length c = search needs
 returns : tie.Need-returns Inv-loop μ-loop
 returns c =
     record {
-      tested = sym (climbed-crosses _ (c .before .before .before .before .before .before .before .before .before .before .pre .0) _ (here (c .before .before .before .before .before)) _ (c .before .before .climb .ensures) (sym (tested (c .before)) ∙ c .if1 .taken));
+      tested = sym (climbed-crosses _ (c .before .before .before .before .before .before .before .before .before .before .before .before .pre .0) _ (here (c .before .before .before .before .before .before .before)) _ (c .before .before .climb .ensures) (sym (tested (c .before)) ∙ c .if1 .taken));
       parents = λ f. absurd (clash refl f);
     }
 
@@ -76,24 +76,24 @@ mul-parents : tie.Need-mul-parents Inv-loop μ-loop
 mul-parents c = search needs
 
 slice-write-parents : tie.Need-slice-write-parents Inv-loop μ-loop
-slice-write-parents c = omega (arith, here (c .before .before .before .before .before), c .before .before .before .before .before .before .before .before .before .before .pre .1, c .before .before .before .before .before .before .loop .inv .2)
+slice-write-parents c = omega (arith, here (c .before .before .before .before .before .before .before), c .before .before .before .before .before .before .before .before .before .before .before .before .pre .1, c .before .before .before .before .before .before .before .before .loop .inv .2)
 
 add-k : tie.Need-add-k Inv-loop μ-loop
-add-k c = omega (arith, c .before .before .before .before .before .before .before .number-at .ok)
+add-k c = omega (arith, c .before .before .before .before .before .before .before .before .before .number-at .ok)
 
 loop-less : tie.Need-loop-less Inv-loop μ-loop
 loop-less c = search needs
 
 loop-again : tie.Need-loop-again Inv-loop μ-loop
 loop-again c =
-    let inv = c .before .before .before .before .before .before .loop .inv in
-    let o = c .before .before .before .before .before .before .before .before .before .before .pre .0 in
+    let inv = c .before .before .before .before .before .before .before .before .loop .inv in
+    let o = c .before .before .before .before .before .before .before .before .before .before .before .before .pre .0 in
     let clear = sym (tested (c .before)) ∙ c .if1 .left in (
       omega arith,
       inv .1,
       simp length-set (inv .2),
-      nested-more _ _ (inv .3) (climbed-nested _ o _ (here (c .before .before .before .before .before)) _ (c .before .before .climb .ensures) clear),
-      parents-more _ (c .before .before .before .before .before .before .loop .parents) (c .before .before .before .before .before .before .loop .k) _ (omega (arith, here (c .before .before .before .before .before), c .before .before .before .before .before .before .before .before .before .before .pre .1, inv .2)) (inv .4) (climbed-parent _ o _ (here (c .before .before .before .before .before)) _ (c .before .before .climb .ensures) clear),
+      nested-more _ _ (inv .3) (climbed-nested _ o _ (here (c .before .before .before .before .before .before .before)) _ (c .before .before .climb .ensures) clear),
+      parents-more _ (c .before .before .before .before .before .before .before .before .loop .parents) (c .before .before .before .before .before .before .before .before .loop .k) _ (omega (arith, here (c .before .before .before .before .before .before .before), c .before .before .before .before .before .before .before .before .before .before .before .before .pre .1, inv .2)) (inv .4) (climbed-parent _ o _ (here (c .before .before .before .before .before .before .before)) _ (c .before .before .climb .ensures) clear),
     )
 
 same-length-2 : tie.Need-same-length-2 Inv-loop μ-loop

@@ -1,0 +1,18 @@
+-- What the private functions that walk along the leaf lengths promise each other.
+use Prim.Native.Nat.{ℕ, _+_, _≤_}
+use mathlib.Core.List.{List}
+use mathlib.Core.Path.{_≡_}
+use lib.ListN.{drop}
+use Rattle.reader.specs.Bytes.{numberAt}
+use Rattle.reader.specs.Family.{Family, leaves, leafOf, leafAfter}
+
+-- the eight numbers in a row from an offset, added up
+unfoldable pub eightLengths : List ℕ → ℕ → ℕ
+eightLengths s at =
+    numberAt s at + numberAt s (at + 2) + numberAt s (at + 4) + numberAt s (at + 6)
+    + numberAt s (at + 8) + numberAt s (at + 10) + numberAt s (at + 12) + numberAt s (at + 14)
+
+-- the leaf of peptide p is to be found after leaf j, with `left` of the peptide's number
+pub record PassedTo (F : Family) (p j left : ℕ) : Type 0 where
+  pub leaf : j ≤ leaves F
+  pub found : leafOf F p ≡ leafAfter j (drop j (F .lengths)) left
