@@ -14,6 +14,7 @@ use Rattle.reader.specs.Family as family
 use Rattle.reader.specs.Family.{Family, leaves, regionCount, region, regionAt, familyOf, mark}
 use Rattle.reader.specs.Causes.{Cause, cause1, cause2, cause3, cause4, cause5, cause6, cause7, cause8, cause9, cause10, firstCause, headerCauses, familyCauses, fileCauses, Accepted}
 use Rattle.reader.specs.WellFormed.{Ordered, WellFormed, ParentsBelow}
+use Rattle.reader.specs.InPlace.{Whole}
 use Rattle.reader.specs.declared.Checked.{Checked}
 use Rattle.reader.specs.declared.Checked.the-variants.{Family as Accepts, Refused}
 use Rattle.reader.specs.Calls.{Report, report, checked, regionPart, withParents}
@@ -78,6 +79,9 @@ header-clear s h =
     let d = head-clear _ _ (omega arith) (c .1) in
     let e = head-clear _ _ (omega arith) (d .1) in
     record { no1 = a .0; no2 = b .0; no3 = c .0; no4 = d .0; no5 = e .0 }
+
+pub header-whole : (s : List ℕ) → firstCause (headerCauses s) ≡ 0 → Whole s
+header-whole s h = omega (arith, laid-down s (header-clear s h .no5) .whole)
 
 pub record FamilyClear (F : Family) : Type 0 where
   pub no6 : cause6 F ≡ false

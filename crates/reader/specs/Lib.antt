@@ -5,6 +5,6 @@ pub mod Family
 pub mod Nesting
 pub mod Causes
 pub mod WellFormed
-pub mod LeafWalk
+pub mod InPlace
 pub mod Climb
 pub mod Calls

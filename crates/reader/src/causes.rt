@@ -1,13 +1,18 @@
 // Causes 1 to 8: the header, the leaf lengths and the regions one by one.
 use crate::bytes::number_at;
+use crate::bytes::number_within;
 use crate::bytes::same_bytes;
 use crate::family::Region;
 use crate::family::region_at;
+use crate::family::region_within;
 ghost use mathlib.Core.Path.{_≡_};
 ghost use mathlib.Core.Bool.{not};
+ghost use Prim.Native.Nat.{_<_};
+ghost use Rattle.reader.specs.Bytes.{numberAt};
 ghost use Rattle.reader.specs.Family.{familyOf, regionAt};
 ghost use Rattle.reader.specs.Nesting.{before};
 ghost use Rattle.reader.specs.Causes.{cause1, cause5, cause6, cause7, cause8, misplaced, firstCause, headerCauses};
+ghost use Rattle.reader.specs.InPlace.{Whole};
 ghost use Rattle.reader.specs.Calls.{held};
 
 fn lacks_mark(file: &[u8]) -> bool
@@ -71,13 +76,14 @@ fn bad_layout(file: &[u8]) -> bool
 
 // A leaf length 0, or their sum not m.
 pub(crate) fn bad_lengths(file: &[u8]) -> bool
+    requires { ⌜ Whole (now file) ⌝ }
     ensures { λ r. ⌜ r ≡ cause6 (familyOf (now (file .entry))) ⌝ }
 {
     let leaves = number_at(file, 6) as usize;
     let mut sum: usize = 0;
     let mut j = 0;
     while j < leaves {
-        let length = number_at(file, 16 + 2 * j);
+        let length = number_within(file, 16 + 2 * j);
         if length == 0 {
             return true;
         }
@@ -89,6 +95,7 @@ pub(crate) fn bad_lengths(file: &[u8]) -> bool
 
 // First leaf 0, last below first, or last over N, of some region.
 pub(crate) fn misplaced_region(file: &[u8]) -> bool
+    requires { ⌜ Whole (now file) ⌝ }
     ensures { λ r. ⌜ r ≡ cause7 (familyOf (now (file .entry))) ⌝ }
 {
     let leaves = number_at(file, 6);
@@ -104,9 +111,11 @@ pub(crate) fn misplaced_region(file: &[u8]) -> bool
 }
 
 fn misplaced_at(file: &[u8], leaves: u16, k: u16) -> bool
+    requires { ⌜ Whole (now file) ⌝ }
+    requires { ⌜ k < numberAt (now file) 8 ⌝ }
     ensures { λ r. ⌜ r ≡ misplaced leaves (regionAt (now (file .entry)) k) ⌝ }
 {
-    let r = region_at(file, k);
+    let r = region_within(file, k);
     let first = r.first.0;
     let last = r.last.0;
     if first == 0 {
@@ -120,13 +129,14 @@ fn misplaced_at(file: &[u8], leaves: u16, k: u16) -> bool
 
 // A region not after the one before it.
 pub(crate) fn misordered_region(file: &[u8]) -> bool
+    requires { ⌜ Whole (now file) ⌝ }
     ensures { λ r. ⌜ r ≡ cause8 (familyOf (now (file .entry))) ⌝ }
 {
     let regions = number_at(file, 8);
     let mut r = region_at(file, 0);
     let mut k = 0;
     while k + 1 < regions {
-        let q = region_at(file, k + 1);
+        let q = region_within(file, k + 1);
         if not_before(r, q) {
             return true;
         }

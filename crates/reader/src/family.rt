@@ -2,11 +2,11 @@
 use crate::bytes::number_at;
 use crate::bytes::number_within;
 ghost use mathlib.Core.Path.{_≡_};
-ghost use Prim.Native.Nat.{_+_, _<_, _≤_};
+ghost use Prim.Native.Nat.{_+_, _*_, _<_, _≤_};
 ghost use lib.ListN.{length};
 ghost use Rattle.reader.specs.Bytes.{numberAt};
 ghost use Rattle.reader.specs.Family.{familyOf, leaves, regionCount, leafLength, leafOf, regionAt, region};
-ghost use Rattle.reader.specs.LeafWalk.{eightLengths, PassedTo};
+ghost use Rattle.reader.specs.InPlace.{eightLengths, PassedTo};
 ghost use Rattle.reader.specs.Calls.{held};
 
 // The number of a leaf, 1 to N.
@@ -125,23 +125,32 @@ pub fn leaf_of(file: &[u8], peptide: Peptide) -> Leaf
     Leaf(0)
 }
 
-// The k-th region as the bytes have it. One comparison settles all six bytes: the check spends its time here.
+// The k-th region, where the file is known to have it: the check has compared the length with the header by then, and
+// spends its time here.
+pub(crate) fn region_within(file: &[u8], k: u16) -> Region
+    requires { ⌜ 16 + 2 * numberAt (now file) 6 + 6 * k + 6 ≤ length (now file) ⌝ }
+    ensures { λ r. ⌜ held r ≡ regionAt (now (file .entry)) k ⌝ }
+{
+    let at = 16 + 2 * (number_within(file, 6) as usize) + 6 * (k as usize);
+    Region {
+        first: Leaf(number_within(file, at)),
+        last: Leaf(number_within(file, at + 2)),
+        z: number_within(file, at + 4),
+    }
+}
+
+// The k-th region as the bytes have it; what lies past the end counts as 0.
 pub(crate) fn region_at(file: &[u8], k: u16) -> Region
     ensures { λ r. ⌜ held r ≡ regionAt (now (file .entry)) k ⌝ }
 {
     let at = 16 + 2 * (number_at(file, 6) as usize) + 6 * (k as usize);
     if at + 6 <= file.len() {
-        Region {
-            first: Leaf(number_within(file, at)),
-            last: Leaf(number_within(file, at + 2)),
-            z: number_within(file, at + 4),
-        }
-    } else {
-        Region {
-            first: Leaf(number_at(file, at)),
-            last: Leaf(number_at(file, at + 2)),
-            z: number_at(file, at + 4),
-        }
+        return region_within(file, k);
+    }
+    Region {
+        first: Leaf(number_at(file, at)),
+        last: Leaf(number_at(file, at + 2)),
+        z: number_at(file, at + 4),
     }
 }
 

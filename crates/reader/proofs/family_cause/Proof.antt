@@ -7,7 +7,7 @@ use Rattle.reader.specs.Family.{familyOf}
 use Rattle.reader.specs.Causes.{cause6, cause7, cause8, cause9, cause10, firstCause, familyCauses}
 use Rattle.reader.specs.WellFormed.{Ordered}
 use Rattle.reader.proofs.Climbing.{nested-if-clear}
-use Rattle.reader.proofs.Accepting.{ordered-if-clear, header-clear, few-regions}
+use Rattle.reader.proofs.Accepting.{ordered-if-clear, header-clear, header-whole, few-regions}
 use borrow.Author.Needs.{needs}
 use Rattle.reader.proofs.family_cause.Statement.{statement}
 use Rattle.reader.proofs.family_cause.Tie as tie
@@ -28,28 +28,30 @@ in-order : (c : tie.Else3) → Ordered (familyOf (now (c .before .before .before
 in-order c = ordered-if-clear _ (no7 (c .before .before)) (no8 c)
 
 bad-lengths-requires : tie.Need-bad-lengths-requires
-bad-lengths-requires c κs = search needs
+bad-lengths-requires c κs = header-whole _ (c .before .before .pre .1)
 
 returns : tie.Need-returns
 unfolding firstCause familyCauses
 returns c = record { tested = rw (← (c .before .bad-lengths .ensures), c .if1 .taken); parents = λ e. absurd (omega arith) }
 
 misplaced-region-requires : tie.Need-misplaced-region-requires
-misplaced-region-requires c κs = search needs
+misplaced-region-requires c κs = header-whole _ (c .before .before .before .before .pre .1)
 
 returns-2 : tie.Need-returns-2
 unfolding firstCause familyCauses
 returns-2 c = record { tested = rw (no6 (c .before .before), ← (c .before .misplaced-region .ensures), c .if2 .taken); parents = λ e. absurd (omega arith) }
 
 misordered-region-requires : tie.Need-misordered-region-requires
-misordered-region-requires c κs = search needs
+misordered-region-requires c κs = header-whole _ (c .before .before .before .before .before .before .pre .1)
 
 returns-3 : tie.Need-returns-3
 unfolding firstCause familyCauses
 returns-3 c = record { tested = rw (no6 (c .before .before .before .before), no7 (c .before .before), ← (c .before .misordered-region .ensures), c .if3 .taken); parents = λ e. absurd (omega arith) }
 
 fill-parents-requires : tie.Need-fill-parents-requires
-fill-parents-requires c κs = (in-order (c .before), omega (arith, few-regions _ (header-clear _ (c .before .before .before .before .before .before .before .before .before .pre .1)), c .before .before .before .before .before .before .before .before .before .pre .0))
+fill-parents-requires c κs =
+    let pre = c .before .before .before .before .before .before .before .before .before .pre in
+    (in-order (c .before), (omega (arith, few-regions _ (header-clear _ (pre .1)), pre .0), header-whole _ (pre .1)))
 
 same-length : tie.Need-same-length
 same-length c = search needs

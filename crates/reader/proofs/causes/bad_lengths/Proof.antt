@@ -39,20 +39,20 @@ cast-leaves c = search needs
 loop-holds : tie.Need-loop-holds Inv-loop μ-loop
 loop-holds c = (omega arith, c .number-at .ensures, omega (arith, c .number-at .ok), omega arith, sym (nothing-before _), none-below-zero _)
 
-mul-number-at : tie.Need-mul-number-at Inv-loop μ-loop
-mul-number-at c = search needs
+mul-number-within : tie.Need-mul-number-within Inv-loop μ-loop
+mul-number-within c = search needs
 
-add-number-at : tie.Need-add-number-at Inv-loop μ-loop
-add-number-at c = search needs
+add-number-within : tie.Need-add-number-within Inv-loop μ-loop
+add-number-within c = search needs
 
-number-at-requires-2 : tie.Need-number-at-requires-2 Inv-loop μ-loop
-number-at-requires-2 c κs = search needs
+number-within-requires : tie.Need-number-within-requires Inv-loop μ-loop
+number-within-requires c κs = search needs
 
 returns : tie.Need-returns Inv-loop μ-loop
 unfolding lengthAt
 returns c =
     let s = now (c .before .before .before .before .before .before .args .file) in
-    sym (lengths-at-bytes s ∙ or-l _ _ (some-at (λ i. eqb (lengthAt s i) 0) (numberAt s 6) (c .before .before .before .loop .j) (omega arith) (eq-eqb _ 0 (sym (c .before .number-at2 .ensures) ∙ c .if1 .taken))))
+    sym (lengths-at-bytes s ∙ or-l _ _ (some-at (λ i. eqb (lengthAt s i) 0) (numberAt s 6) (c .before .before .before .loop .j) (omega arith) (eq-eqb _ 0 (sym (c .before .number-within .ensures) ∙ c .if1 .taken))))
 
 cast-sum : tie.Need-cast-sum Inv-loop μ-loop
 cast-sum c = search needs
@@ -75,13 +75,13 @@ loop-again c =
       omega arith,
       inv .1,
       inv .2,
-      omega (arith, c .before .number-at2 .ok),
+      omega (arith, c .before .number-within .ok),
       omega (arith, up-to-next (familyOf s) j, length-number s j (omega arith)),
-      none-more _ _ (inv .5) (ne-eqb _ 0 (λ e. c .if1 .left (c .before .number-at2 .ensures ∙ e))),
+      none-more _ _ (inv .5) (ne-eqb _ 0 (λ e. c .if1 .left (c .before .number-within .ensures ∙ e))),
     )
 
-number-at-requires-3 : tie.Need-number-at-requires-3 Inv-loop μ-loop
-number-at-requires-3 c κs = search needs
+number-at-requires-2 : tie.Need-number-at-requires-2 Inv-loop μ-loop
+number-at-requires-2 c κs = search needs
 
 cast-result : tie.Need-cast-result Inv-loop μ-loop
 cast-result c = search needs
@@ -90,7 +90,7 @@ returns-2 : tie.Need-returns-2 Inv-loop μ-loop
 returns-2 c =
     let s = now (c .before .before .before .before .before .args .file) in
     let end : c .before .before .loop .j ≡ numberAt s 6 = omega arith in
-    ap₂ (λ (a b : ℕ). not (eqb a b)) (omega (arith, up-to-end (familyOf s) (c .before .before .loop .j) (omega (arith, leaves-read s)))) (c .number-at3 .ensures)
+    ap₂ (λ (a b : ℕ). not (eqb a b)) (omega (arith, up-to-end (familyOf s) (c .before .before .loop .j) (omega (arith, leaves-read s)))) (c .number-at2 .ensures)
     ∙ sym (sum-at-bytes s (rw end at (c .before .before .loop .inv .5)))
 
 pub bad-lengths-spec : {M : Type 1} → statement M
@@ -102,15 +102,15 @@ bad-lengths-spec =
     number-at-requires
     cast-leaves
     loop-holds
-    mul-number-at
-    add-number-at
-    number-at-requires-2
+    mul-number-within
+    add-number-within
+    number-within-requires
     returns
     cast-sum
     add-sum
     add-j
     loop-less
     loop-again
-    number-at-requires-3
+    number-at-requires-2
     cast-result
     returns-2)

@@ -32,7 +32,7 @@ tested :
     ≡ not (before (regionAt (now (c .before .before .before .before .before .before .before .args .file)) (c .before .before .before .loop .k))
     (regionAt (now (c .before .before .before .before .before .before .before .args .file)) (c .before .before .before .loop .k + 1)))
 tested c =
-    c .not-before .ensures ∙ ap₂ (λ (a b : Region). not (before a b)) (c .before .before .before .loop .inv .2) (c .before .region-at2 .ensures)
+    c .not-before .ensures ∙ ap₂ (λ (a b : Region). not (before a b)) (c .before .before .before .loop .inv .2) (c .before .region-within .ensures)
 
 number-at-requires : tie.Need-number-at-requires Inv-loop μ-loop
 number-at-requires c κs = search needs
@@ -46,11 +46,11 @@ loop-holds c = (omega arith, c .before .number-at .ensures, c .region-at .ensure
 add-loop : tie.Need-add-loop Inv-loop μ-loop
 add-loop c = search needs
 
-add-region-at : tie.Need-add-region-at Inv-loop μ-loop
-add-region-at c = search needs
+add-region-within : tie.Need-add-region-within Inv-loop μ-loop
+add-region-within c = search needs
 
-region-at-requires-2 : tie.Need-region-at-requires-2 Inv-loop μ-loop
-region-at-requires-2 c κs = search needs
+region-within-requires : tie.Need-region-within-requires Inv-loop μ-loop
+region-within-requires c κs = search needs
 
 not-before-requires : tie.Need-not-before-requires Inv-loop μ-loop
 not-before-requires c κs = search needs
@@ -69,7 +69,7 @@ loop-less c = search needs
 loop-again : tie.Need-loop-again Inv-loop μ-loop
 loop-again c =
     let inv = c .before .before .before .before .loop .inv in
-    (omega arith, inv .1, c .before .before .region-at2 .ensures, none-more _ _ (inv .3) (sym (tested (c .before)) ∙ c .if1 .left))
+    (omega arith, inv .1, c .before .before .region-within .ensures, none-more _ _ (inv .3) (sym (tested (c .before)) ∙ c .if1 .left))
 
 returns-2 : tie.Need-returns-2 Inv-loop μ-loop
 returns-2 c =
@@ -87,8 +87,8 @@ misordered-region-spec =
     region-at-requires
     loop-holds
     add-loop
-    add-region-at
-    region-at-requires-2
+    add-region-within
+    region-within-requires
     not-before-requires
     returns
     add-k

@@ -1,4 +1,4 @@
--- The three numbers stand where the region's record begins.
+-- The three numbers stand where the region's record begins, or 0 where the file has ended.
 use Rattle.reader.specs.Family.{regionAt}
 use Rattle.reader.specs.Calls.{held}
 use borrow.Author.Needs.{needs}
@@ -26,20 +26,11 @@ add-at-2 c = search needs
 add-if1 : tie.Need-add-if1
 add-if1 c = search needs
 
-number-within-requires : tie.Need-number-within-requires
-number-within-requires c κs = search needs
+region-within-requires : tie.Need-region-within-requires
+region-within-requires c κs = search needs
 
-add-number-within : tie.Need-add-number-within
-add-number-within c = search needs
-
-number-within-requires-2 : tie.Need-number-within-requires-2
-number-within-requires-2 c κs = search needs
-
-add-number-within-2 : tie.Need-add-number-within-2
-add-number-within-2 c = search needs
-
-number-within-requires-3 : tie.Need-number-within-requires-3
-number-within-requires-3 c κs = search needs
+returns : tie.Need-returns
+returns c = search needs
 
 number-at-requires-2 : tie.Need-number-at-requires-2
 number-at-requires-2 c κs = search needs
@@ -56,10 +47,6 @@ add-number-at-2 c = search needs
 number-at-requires-4 : tie.Need-number-at-requires-4
 number-at-requires-4 c κs = search needs
 
-returns : tie.Need-returns
-unfolding held regionAt
-returns c = cc
-
 returns-2 : tie.Need-returns-2
 unfolding held regionAt
 returns-2 c = cc
@@ -75,15 +62,11 @@ region-at-spec =
     mul-at-2
     add-at-2
     add-if1
-    number-within-requires
-    add-number-within
-    number-within-requires-2
-    add-number-within-2
-    number-within-requires-3
+    region-within-requires
+    returns
     number-at-requires-2
     add-number-at
     number-at-requires-3
     add-number-at-2
     number-at-requires-4
-    returns
     returns-2)

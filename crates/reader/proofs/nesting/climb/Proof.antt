@@ -17,25 +17,27 @@ abbrev μ-loop : tie.MeasureT-loop
 μ-loop file parents k first number₀ number = number
 
 -- the region that the loop looks at ends where its struct says
-last-read : (c : tie.After-region-at Inv-loop μ-loop) → c .region-at .result .last .0 ≡ region (familyOf (now (c .before .before .before .before .before .args .file))) (c .before .before .loop .number - 1) .last
+last-read : (c : tie.After-region-within Inv-loop μ-loop) → c .region-within .result .last .0 ≡ region (familyOf (now (c .before .before .before .before .before .args .file))) (c .before .before .loop .number - 1) .last
 last-read c =
     let s = now (c .before .before .before .before .before .args .file) in
     let pre = c .before .before .before .before .before .pre .0 in
-    held-last _ _ (c .region-at .ensures ∙ sym (region-read s (c .before .before .loop .number - 1) (omega (arith, regions-read s, pre .here, c .before .before .loop .inv .0, c .before .loop-test))))
+    held-last _ _ (c .region-within .ensures ∙ sym (region-read s (c .before .before .loop .number - 1) (omega (arith, regions-read s, pre .here, c .before .before .loop .inv .0, c .before .loop-test))))
 
 loop-holds : tie.Need-loop-holds Inv-loop μ-loop
 loop-holds c = let pre = c .before .before .pre .0 in climb-starts _ (pre .ordered) _ (pre .here) (pre .nested)
 
-sub-region-at : tie.Need-sub-region-at Inv-loop μ-loop
-sub-region-at c = search needs
+sub-region-within : tie.Need-sub-region-within Inv-loop μ-loop
+sub-region-within c = search needs
 
-region-at-requires : tie.Need-region-at-requires Inv-loop μ-loop
-region-at-requires c κs = search needs
+region-within-requires : tie.Need-region-within-requires Inv-loop μ-loop
+region-within-requires c κs =
+    let pre = c .before .before .before .before .pre in
+    omega (arith, regions-read (now (c .before .before .before .before .args .file)), pre .0 .here, pre .1 .1, c .before .loop .inv .0, c .loop-test)
 
 returns : tie.Need-returns Inv-loop μ-loop
 returns c =
     let pre = c .before .before .before .before .before .before .pre .0 in
-    climb-stops _ (pre .ordered) _ (pre .here) (c .before .before .before .loop .number) (c .before .before .before .loop .inv) (omega (arith, last-read (c .before), c .before .before .before .before .before .before .pre .1, c .if1 .taken))
+    climb-stops _ (pre .ordered) _ (pre .here) (c .before .before .before .loop .number) (c .before .before .before .loop .inv) (omega (arith, last-read (c .before), c .before .before .before .before .before .before .pre .1 .0, c .if1 .taken))
 
 sub-number : tie.Need-sub-number Inv-loop μ-loop
 sub-number c = search needs
@@ -56,7 +58,7 @@ loop-again : tie.Need-loop-again Inv-loop μ-loop
 loop-again c =
     let pre = c .before .before .before .before .before .before .before .pre .0 in
     climb-steps _ (pre .ordered) _ (pre .here) (c .before .before .before .before .loop .number) _ (c .before .before .before .loop-test .taken) (c .before .before .before .before .loop .inv)
-    (omega (arith, last-read (c .before .before), c .before .before .before .before .before .before .before .pre .1, c .before .if1 .left))
+    (omega (arith, last-read (c .before .before), c .before .before .before .before .before .before .before .pre .1 .0, c .before .if1 .left))
     (pre .known (c .before .before .before .before .loop .number - 1) (omega (arith, c .before .before .before .before .loop .inv .0, c .before .before .before .loop-test)))
 
 returns-2 : tie.Need-returns-2 Inv-loop μ-loop
@@ -71,8 +73,8 @@ climb-spec =
     Inv-loop
     μ-loop
     loop-holds
-    sub-region-at
-    region-at-requires
+    sub-region-within
+    region-within-requires
     returns
     sub-number
     cast-number

@@ -17,19 +17,19 @@ returns : tie.Need-returns
 unfolding endsBefore
 returns c = rw (c .if1 .taken)
 
-sub-region-at : tie.Need-sub-region-at
-sub-region-at c = search needs
+sub-region-within : tie.Need-sub-region-within
+sub-region-within c = search needs
 
-region-at-requires : tie.Need-region-at-requires
-region-at-requires c κs = search needs
+region-within-requires : tie.Need-region-within-requires
+region-within-requires c κs = omega (arith, regions-read (now (c .before .before .args .file)), c .before .before .pre .0, c .before .before .pre .1, c .if1 .left)
 
 returns-2 : tie.Need-returns-2
 unfolding endsBefore
 returns-2 c =
     let s = now (c .before .before .before .args .file) in
     let k = c .before .before .before .args .number - 1 in
-    let e = c .region-at .ensures ∙ sym (region-read s k (omega (arith, regions-read s))) in
+    let e = c .region-within .ensures ∙ sym (region-read s k (omega (arith, regions-read s))) in
     rw (ne-eqb (c .before .before .before .args .number) 0 (c .before .if1 .left)) (ap (λ (l : ℕ). ltb l (c .before .before .before .args .leaf .0)) (held-last _ (region (familyOf s) k) e))
 
 pub ends-before-spec : {M : Type 1} → statement M
-ends-before-spec = tie.close (tie.spec returns sub-region-at region-at-requires returns-2)
+ends-before-spec = tie.close (tie.spec returns sub-region-within region-within-requires returns-2)

@@ -36,7 +36,7 @@ tested :
     → c .ends-before .result ≡ endsBefore (familyOf (now (c .before .before .before .before .before .before .before .before .before .before .before .args .file))) (c .before .climb .result) (region (familyOf (now (c .before .before .before .before .before .before .before .before .before .before .before .args .file))) (c .before .before .before .before .before .before .before .loop .k) .last)
 tested c =
     let s = now (c .before .before .before .before .before .before .before .before .before .before .before .args .file) in
-    rw (← (held-last _ _ (c .before .before .before .before .before .region-at .ensures ∙ sym (region-read s (c .before .before .before .before .before .before .before .loop .k) (omega (arith, c .before .before .before .before .before .before .loop-test .taken, c .before .before .before .before .before .before .before .loop .inv .1)))))) (c .ends-before .ensures)
+    rw (← (held-last _ _ (c .before .before .before .before .before .region-within .ensures ∙ sym (region-read s (c .before .before .before .before .before .before .before .loop .k) (omega (arith, c .before .before .before .before .before .before .loop-test .taken, c .before .before .before .before .before .before .before .loop .inv .1)))))) (c .ends-before .ensures)
 
 number-at-requires : tie.Need-number-at-requires Inv-loop μ-loop
 number-at-requires c κs = search needs
@@ -44,20 +44,23 @@ number-at-requires c κs = search needs
 loop-holds : tie.Need-loop-holds Inv-loop μ-loop
 loop-holds c = (omega arith, c .number-at .ensures, refl, λ i j l h. absurd (omega arith), λ i l. absurd (omega arith))
 
-region-at-requires : tie.Need-region-at-requires Inv-loop μ-loop
-region-at-requires c κs = search needs
+region-within-requires : tie.Need-region-within-requires Inv-loop μ-loop
+region-within-requires c κs = search needs
 
 climb-requires : tie.Need-climb-requires Inv-loop μ-loop
 climb-requires c κs =
     let s = now (c .before .before .before .before .before .before .before .before .before .args .file) in
     let pre = c .before .before .before .before .before .before .before .before .before .pre in
     let inv = c .before .before .before .before .before .loop .inv in (
-      record { ordered = pre .0; nested = inv .3; known = inv .4; here = here (c .before .before .before .before); room = omega (arith, pre .1, inv .2) },
-      held-first _ _ (c .before .before .before .region-at .ensures ∙ sym (region-read s (c .before .before .before .before .before .loop .k) (omega (arith, c .before .before .before .before .loop-test .taken, inv .1)))),
+      record { ordered = pre .0; nested = inv .3; known = inv .4; here = here (c .before .before .before .before); room = omega (arith, pre .1 .0, inv .2) },
+      (
+        held-first _ _ (c .before .before .before .region-within .ensures ∙ sym (region-read s (c .before .before .before .before .before .loop .k) (omega (arith, c .before .before .before .before .loop-test .taken, inv .1)))),
+        pre .1 .1,
+      ),
     )
 
 ends-before-requires : tie.Need-ends-before-requires Inv-loop μ-loop
-ends-before-requires c κs = omega (arith, c .climb .ensures .earlier, here (c .before .before .before .before .before))
+ends-before-requires c κs = (omega (arith, c .climb .ensures .earlier, here (c .before .before .before .before .before)), c .before .before .before .before .before .before .before .before .before .before .pre .1 .1)
 
 same-length : tie.Need-same-length Inv-loop μ-loop
 same-length c = search needs
@@ -76,7 +79,7 @@ mul-parents : tie.Need-mul-parents Inv-loop μ-loop
 mul-parents c = search needs
 
 slice-write-parents : tie.Need-slice-write-parents Inv-loop μ-loop
-slice-write-parents c = omega (arith, here (c .before .before .before .before .before .before .before), c .before .before .before .before .before .before .before .before .before .before .before .before .pre .1, c .before .before .before .before .before .before .before .before .loop .inv .2)
+slice-write-parents c = omega (arith, here (c .before .before .before .before .before .before .before), c .before .before .before .before .before .before .before .before .before .before .before .before .pre .1 .0, c .before .before .before .before .before .before .before .before .loop .inv .2)
 
 add-k : tie.Need-add-k Inv-loop μ-loop
 add-k c = omega (arith, c .before .before .before .before .before .before .before .before .before .number-at .ok)
@@ -93,7 +96,7 @@ loop-again c =
       inv .1,
       simp length-set (inv .2),
       nested-more _ _ (inv .3) (climbed-nested _ o _ (here (c .before .before .before .before .before .before .before)) _ (c .before .before .climb .ensures) clear),
-      parents-more _ (c .before .before .before .before .before .before .before .before .loop .parents) (c .before .before .before .before .before .before .before .before .loop .k) _ (omega (arith, here (c .before .before .before .before .before .before .before), c .before .before .before .before .before .before .before .before .before .before .before .before .pre .1, inv .2)) (inv .4) (climbed-parent _ o _ (here (c .before .before .before .before .before .before .before)) _ (c .before .before .climb .ensures) clear),
+      parents-more _ (c .before .before .before .before .before .before .before .before .loop .parents) (c .before .before .before .before .before .before .before .before .loop .k) _ (omega (arith, here (c .before .before .before .before .before .before .before), c .before .before .before .before .before .before .before .before .before .before .before .before .pre .1 .0, inv .2)) (inv .4) (climbed-parent _ o _ (here (c .before .before .before .before .before .before .before)) _ (c .before .before .climb .ensures) clear),
     )
 
 same-length-2 : tie.Need-same-length-2 Inv-loop μ-loop
@@ -117,7 +120,7 @@ fill-parents-spec =
     μ-loop
     number-at-requires
     loop-holds
-    region-at-requires
+    region-within-requires
     climb-requires
     ends-before-requires
     same-length

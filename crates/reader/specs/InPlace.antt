@@ -1,10 +1,14 @@
--- What the private functions that walk along the leaf lengths promise each other.
-use Prim.Native.Nat.{ℕ, _+_, _≤_}
+-- What the private functions that read the file in place ask of each other and promise.
+use Prim.Native.Nat.{ℕ, _+_, _*_, _≤_}
 use mathlib.Core.List.{List}
 use mathlib.Core.Path.{_≡_}
-use lib.ListN.{drop}
+use lib.ListN.{length, drop}
 use Rattle.reader.specs.Bytes.{numberAt}
 use Rattle.reader.specs.Family.{Family, leaves, leafOf, leafAfter}
+
+-- the file has all the lengths and regions that its header counts
+abbrev pub Whole : List ℕ → Type 0
+Whole s = 16 + 2 * numberAt s 6 + 6 * numberAt s 8 ≤ length s
 
 -- the eight numbers in a row from an offset, added up
 unfoldable pub eightLengths : List ℕ → ℕ → ℕ
