@@ -1,9 +1,9 @@
 // A cursor that walks along the line, over whole leaves, and counts the selected peptides on its way.
 use crate::selection::selected_between;
-use reader::bytes::number_at;
 use reader::family::Leaf;
 use reader::family::Peptide;
 use reader::family::leaf_length;
+use reader::family::region_count;
 use reader::family::region_of;
 ghost use mathlib.Core.Path.{_≡_};
 ghost use Prim.Native.Nat.{_-_, _<_, _≤_};
@@ -65,7 +65,7 @@ pub(crate) fn pass(file: &[u8], selection: &[u8], from: Cursor, last: Leaf) -> C
 pub(crate) fn begins_by(file: &[u8], k: u16, last: Leaf) -> bool
     ensures { λ r. ⌜ r ≡ beginsBy (familyOf (now (file .entry))) k (last .0) ⌝ }
 {
-    if k < number_at(file, 8) {
+    if k < region_count(file) {
         let r = region_of(file, k);
         let first = r.first.0;
         let end = last.0;

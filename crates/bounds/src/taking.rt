@@ -1,7 +1,7 @@
 // The taken regions, in one pass in file order: a region is inside a taken one exactly if it begins no later than the latest
 // taken one ends, and the outermost full region around a region is taken.
-use reader::bytes::number_at;
 use reader::family::Leaf;
+use reader::family::region_count;
 use reader::family::region_of;
 ghost use mathlib.Core.List.{_++_};
 ghost use mathlib.Core.Path.{_≡_};
@@ -42,7 +42,7 @@ pub(crate) fn write_taken(file: &[u8], totals: &[u16], taken: &mut [u8])
     requires { ⌜ (regionCount (familyOf (now file)) ≤ length (now totals)) × (regionCount (familyOf (now file)) ≤ length (now taken)) ⌝ }
     ensures { λ _. ⌜ now (taken .exit) ≡ takenAlong (familyOf (now (file .entry))) (now (totals .entry)) ++ drop (regionCount (familyOf (now (file .entry)))) (now (taken .entry)) ⌝ }
 {
-    let regions = number_at(file, 8);
+    let regions = region_count(file);
     let mut until = Leaf(0);
     let mut k = 0;
     while k < regions {

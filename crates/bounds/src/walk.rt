@@ -1,10 +1,10 @@
 // The greedy walk along a path: a peptide is marked unless a region that holds it already has z marked peptides.
 // In file order the regions that hold a leaf are the last one that does and those around it, so a step costs the way
 // to the leaf, a search among the first leaves and the depth of the nesting.
-use reader::bytes::number_at;
 use reader::family::Leaf;
 use reader::family::Peptide;
 use reader::family::leaf_of;
+use reader::family::region_count;
 use reader::family::region_of;
 ghost use mathlib.Core.Path.{_≡_};
 ghost use mathlib.Core.Bool.{cond};
@@ -24,7 +24,7 @@ fn begun(file: &[u8], leaf: Leaf) -> u16
 {
     let place = leaf.0;
     let mut low = 0;
-    let mut high = number_at(file, 8);
+    let mut high = region_count(file);
     while low < high {
         let middle = low + (high - low) / 2;
         let region = region_of(file, middle);
