@@ -8,9 +8,9 @@ use native.Mathlib.Omega.{arith}
 use lib.Dec.{leb, eqb}
 use borrow.Author.Tests.{leb-true, le-leb, eqb-true, eq-eqb}
 use Rattle.bounds.specs.Curves.{among}
-use Rattle.bounds.specs.Ranges.{Range, Peptides, has, card, count, some}
+use Rattle.bounds.specs.Ranges.{Range, Peptides, has, card, count, some, In}
 use Rattle.bounds.specs.Bound.{Admissible}
-use Rattle.bounds.proofs.Members.{test, le-or-lt, clash, refuted, ands, bit, In, some-in, some-found, nowhere-facts}
+use Rattle.bounds.proofs.Members.{test, le-or-lt, clash, refuted, ands, bit, some-in, some-found, nowhere-facts}
 use Rattle.bounds.proofs.Counting.{Subset, none, card-adding, adding, adding-it, adding-old, adding-either, count-mono, count-none, count-adding-most, count-adding-other}
 
 -- Sets that respect all ranges.

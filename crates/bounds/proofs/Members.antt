@@ -9,7 +9,7 @@ use lib.Dec.{leb}
 use lib.ListN.{length, getD}
 use borrow.Author.Tests.{leb-true, leb-false, not-true}
 pub use Rattle.reader.proofs.Bools.{test, clash, refuted, both-ways, and-l, and-r, and-both, ands, or-l, or-r, or-either}
-use Rattle.bounds.specs.Ranges.{some, those, sumOver}
+use Rattle.bounds.specs.Ranges.{some, those, sumOver, In}
 
 -- Tests.
 
@@ -27,10 +27,6 @@ bit-mono false b h = omega arith
 -- Members of a list.
 
 module _ {A : Type 0} where
-  abbrev pub In : A → List A → Type 0
-  In x [] = ⊥
-  In x (y ∷ L) = (x ≡ y) ⊎ In x L
-
   -- where a member stands
   pub record Place (x : A) (L : List A) (d : A) : Type 0 where
     pub at : ℕ

@@ -10,10 +10,10 @@ use lib.ListN.{length, getD}
 use Rattle.reader.specs.Family.{Family, leaves, regionCount, region, peptidesUpTo}
 use Rattle.reader.specs.WellFormed.{WellFormed}
 use Rattle.reader.proofs.Walk.{up-to-end, nothing-before}
-use Rattle.bounds.specs.Ranges.{Range, Peptides, card, count, those, sumOver, justInside, parts, rangeOf, rangesOf}
+use Rattle.bounds.specs.Ranges.{Range, Peptides, card, count, those, sumOver, justInside, parts, rangeOf, rangesOf, In}
 use Rattle.bounds.specs.Bound.{total, value}
 use Rattle.bounds.specs.Rows.{rangeAt, wholeLine, rowRange, leafBefore, lastLeaf}
-use Rattle.bounds.proofs.Members.{le-or-lt, refuted, In, place}
+use Rattle.bounds.proofs.Members.{le-or-lt, refuted, place}
 use Rattle.bounds.proofs.Counting.{count-between, partition-in}
 use Rattle.bounds.proofs.Nesting.{Inside, just-facts, just-holds, part-facts}
 use Rattle.bounds.proofs.Laminar.{Laminar, Hosts, member-hosts, parts-apart, Around, around-hosts}

@@ -17,11 +17,11 @@ use Rattle.reader.specs.WellFormed.{WellFormed}
 use Rattle.reader.proofs.Below.{some-at, found}
 use Rattle.reader.proofs.Lists.{length-tabulate}
 use Rattle.reader.proofs.Walk.{FirstReaching, leaf-found}
-use Rattle.bounds.specs.Ranges.{Range, Peptides, rangeOf, rangesOf, has, card, count}
+use Rattle.bounds.specs.Ranges.{Range, Peptides, rangeOf, rangesOf, has, card, count, In}
 use Rattle.bounds.specs.Curves.{among, entry, markAt, largestUpTo}
 use Rattle.bounds.specs.Paths.{Distinct}
 use Rattle.bounds.specs.Walks.{holdsLeaf, crowded, Stepped}
-use Rattle.bounds.proofs.Members.{test, clash, refuted, both-ways, and-l, and-r, and-both, bit, bit-mono, le-or-lt, In, place}
+use Rattle.bounds.proofs.Members.{test, clash, refuted, both-ways, and-l, and-r, and-both, bit, bit-mono, le-or-lt, place}
 use Rattle.bounds.proofs.Counting.{none, card-none, adding, count-none, count-adding, count-adding-other}
 use Rattle.bounds.proofs.Nesting.{has-facts, has-holds}
 use Rattle.bounds.proofs.Greedy.{blocked, blocked-facts, blocked-holds, mark, among-facts, greedy, greedy-snoc, greedy-new}

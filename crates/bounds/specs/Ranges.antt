@@ -1,7 +1,9 @@
 -- Ranges of peptides, how they lie to each other, and how many peptides of a set they hold.
 use Prim.Native.Nat.{ℕ, zero, suc, _+_, _-_}
-use mathlib.Core.Bool.{Bool, true, false, not, cond, _&&_, _||_}
+use mathlib.Core.Bool.{Bool, false, not, cond, _&&_, _||_}
 use mathlib.Core.List.{List, [], _∷_, map}
+use mathlib.Core.Logic.{_⊎_}
+use mathlib.Core.Path.{_≡_}
 use lib.Dec.{leb, ltb}
 use Rattle.reader.specs.Family.{Region, Family, peptidesUpTo}
 
@@ -37,6 +39,11 @@ card (suc m) X = card m X + cond (X (suc m)) 1 0
 -- how many of the peptides of r are in the set
 unfoldable pub count : ℕ → Peptides → Range → ℕ
 count m X r = card m (λ p. has r p && X p)
+
+-- x is an element of the list
+abbrev pub In : {A : Type 0} → A → List A → Type 0
+In x [] = ⊥
+In x (y ∷ L) = (x ≡ y) ⊎ In x L
 
 -- some element passes the test
 unfoldable pub some : {A : Type 0} → (A → Bool) → List A → Bool

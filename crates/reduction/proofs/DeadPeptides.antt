@@ -12,8 +12,8 @@ use lib.Dec.{ltb}
 use borrow.Author.Tests.{ltb-true, ltb-false}
 use Rattle.reader.specs.Family.{Family, regionCount, region}
 use Rattle.reader.specs.WellFormed.{WellFormed}
-use Rattle.bounds.specs.Ranges.{Range, rangeOf, rangesOf}
-use Rattle.bounds.proofs.Members.{In, place, test, le-or-lt}
+use Rattle.bounds.specs.Ranges.{Range, rangeOf, rangesOf, In}
+use Rattle.bounds.proofs.Members.{place, test, le-or-lt}
 use Rattle.bounds.proofs.Nesting.{has-facts, has-holds}
 use Rattle.bounds.proofs.Family.{ranges-length, range-in, noRange, range-at, upTo-mono}
 use Rattle.reduction.specs.Reduction.{live}
