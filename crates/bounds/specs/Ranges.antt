@@ -5,7 +5,7 @@ use mathlib.Core.List.{List, [], _∷_, map}
 use mathlib.Core.Logic.{_⊎_}
 use mathlib.Core.Path.{_≡_}
 use lib.Dec.{leb, ltb}
-use Rattle.reader.specs.Family.{Region, Family, peptidesUpTo}
+use Rattle.reader.specs.Family.{Region, Family, region, peptidesUpTo}
 
 -- The peptides low + 1 to high, with the bound z. How it lies to another range is judged on its key, from and to:
 -- of a region its leaf numbers, so that a leaf without a peptide is no special case.
@@ -19,6 +19,10 @@ pub record Range : Type 0 where
 unfoldable pub rangeOf : Family → Region → Range
 rangeOf F r =
     record { from = r .first; to = r .last; low = peptidesUpTo F (r .first - 1); high = peptidesUpTo F (r .last); z = r .z }
+
+-- the range of the k-th region, counted from 0
+abbrev pub rangeAt : Family → ℕ → Range
+rangeAt F k = rangeOf F (region F k)
 
 -- the ranges of a family's regions, in file order
 unfoldable pub rangesOf : Family → List Range

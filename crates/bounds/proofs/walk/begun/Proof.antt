@@ -5,13 +5,13 @@ use mathlib.Core.Path.{_≡_}
 use denote.Ref.{now}
 use Rattle.reader.specs.Family.{familyOf, region}
 use Rattle.reader.proofs.Parsed.{held-first}
-use Rattle.bounds.proofs.Holding.{Between, search-right, search-left, search-ends}
+use Rattle.bounds.proofs.Holding.{BegunBetween, search-right, search-left, search-ends}
 use borrow.Author.Needs.{needs}
 use Rattle.bounds.proofs.walk.begun.Statement.{statement}
 use Rattle.bounds.proofs.walk.begun.Tie as tie
 
 abbrev Inv-loop : tie.InvT-loop
-Inv-loop file place low₀ high₀ low high = Between (familyOf file) place low high
+Inv-loop file place low₀ high₀ low high = BegunBetween (familyOf file) place low high
 
 abbrev μ-loop : tie.MeasureT-loop
 μ-loop file place low₀ high₀ low high = high - low

@@ -9,7 +9,7 @@ use Rattle.bounds.specs.Ranges.{rangesOf}
 use Rattle.bounds.specs.Curves.{entry, cutOf}
 use Rattle.bounds.proofs.Counting.{none}
 use Rattle.bounds.proofs.Greedy.{greedy}
-use Rattle.bounds.proofs.Walking.{Counts, counts-start, counts-most, entry-start, Next, next, cutUpTo, cut-start, cut-next}
+use Rattle.bounds.proofs.Walking.{RegionCounts, counts-start, counts-most, entry-start, Next, next, cutUpTo, cut-start, cut-next}
 use borrow.Author.Needs.{needs}
 use Rattle.bounds.proofs.walk.find_cut.Statement.{statement}
 use Rattle.bounds.proofs.walk.find_cut.Tie as tie
@@ -22,7 +22,7 @@ Inv-loop file parents path a b places counts₀ entry₀ cut₀ t₀ counts e cu
     × (e ≤ t)
     × (e ≡ entry (familyOf file) path t)
     × (cut ≡ cutUpTo (familyOf file) path a b t)
-    × Counts (familyOf file) (greedy (familyOf file .peptides) (rangesOf (familyOf file)) none (take t path)) counts
+    × RegionCounts (familyOf file) (greedy (familyOf file .peptides) (rangesOf (familyOf file)) none (take t path)) counts
 
 abbrev μ-loop : tie.MeasureT-loop
 μ-loop file parents path a b places counts₀ entry₀ cut₀ t₀ counts e cut t = places - t
