@@ -182,7 +182,7 @@ module _ {F : Family} {path : List ℕ} (well : WellFormed F) (is : Distinct (F 
   entry-start = sym (path-bound (family-laminar well) []) ∙ card-none (F .peptides) none (λ p l u. refl)
 
   -- One step: the mark and the entry are right, and the counts are those of the set after it.
-  pub record Next (t : ℕ) (D : List ℕ) (marked : ℕ) : Type 0 where
+  pub record RightStep (t : ℕ) (D : List ℕ) (marked : ℕ) : Type 0 where
     pub small : marked ≤ 1
     pub entered : entry F path (t + 1) ≡ entry F path t + marked
     pub right : marked ≡ markAt F path (t + 1)
@@ -207,7 +207,7 @@ module _ {F : Family} {path : List ℕ} (well : WellFormed F) (is : Distinct (F 
         (counts-more well (markedSet t) C counts (getD path t 0) (is .some t h) (is .most t h) D (not-marked t h) (subst (MarkedNext F C (getD path t 0) D) (marked-bit ∙ rw e) s)))
         (test (stops t))
 
-    pub next : Next t D marked
+    pub next : RightStep t D marked
     next =
         record {
           small = ⊎-elim (λ e. omega (arith, marked-bit ∙ ap (λ b. bit (not b)) e)) (λ e. omega (arith, marked-bit ∙ ap (λ b. bit (not b)) e)) (test (stops t));

@@ -8,7 +8,7 @@ ghost use mathlib.Core.Path.{_≡_};
 ghost use Prim.Native.Nat.{_≤_};
 ghost use lib.ListN.{length, drop};
 ghost use Rattle.reader.specs.Family.{familyOf, regionCount};
-ghost use Rattle.bounds.specs.Takes.{Decided, takenAlong};
+ghost use Rattle.bounds.specs.Takes.{TakeDecided, takenAlong};
 
 // A region's byte, and the last leaf of the latest taken region.
 struct Step {
@@ -18,7 +18,7 @@ struct Step {
 
 // Takes the k-th region if its total is over its z and it begins after the latest taken region.
 fn take(file: &[u8], k: u16, total: u16, until: Leaf) -> Step
-    ensures { λ r. ⌜ Decided (familyOf (now (file .entry))) k total (until .0) r ⌝ }
+    ensures { λ r. ⌜ TakeDecided (familyOf (now (file .entry))) k total (until .0) r ⌝ }
 {
     let r = region_of(file, k);
     let first = r.first.0;
