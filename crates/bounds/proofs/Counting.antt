@@ -9,8 +9,8 @@ use native.Mathlib.Nat.{eq-or-lt-of-le}
 use native.Mathlib.Omega.{arith}
 use lib.Dec.{eqb, leb}
 use borrow.Author.Tests.{eqb-true, eqb-false, eq-eqb, ne-eqb, le-leb, lt-leb, le-ltb, lt-ltb}
-use Rattle.bounds.specs.Ranges.{Range, Peptides, has, card, count, some, sumOver, outside}
-use Rattle.bounds.proofs.Members.{test, le-or-lt, clash, refuted, and-both, ands, or-l, or-r, or-either, bit, bit-mono, In, sum-mono, sum-same}
+use Rattle.bounds.specs.Ranges.{Range, Peptides, has, card, count, some, sumOver, outside, In}
+use Rattle.bounds.proofs.Members.{test, le-or-lt, clash, refuted, and-both, ands, or-l, or-r, or-either, bit, bit-mono, sum-mono, sum-same}
 
 -- Sets of peptides, compared on 1 to m.
 

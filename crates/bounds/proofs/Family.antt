@@ -16,8 +16,8 @@ use Rattle.reader.proofs.Parsed.{length-leaf}
 use Rattle.reader.proofs.Walk.{up-to-next}
 use Rattle.reader.proofs.Accepting.{well-formed}
 use Rattle.reader.specs.Family.{Region, Family, leaves, regionCount, region, leafLength, peptidesUpTo, familyOf}
-use Rattle.bounds.specs.Ranges.{Range, rangeOf, rangesOf}
-use Rattle.bounds.proofs.Members.{In, in-at}
+use Rattle.bounds.specs.Ranges.{Range, rangeOf, rangesOf, In}
+use Rattle.bounds.proofs.Members.{in-at}
 use Rattle.bounds.proofs.Laminar.{Fit, isAround, isBefore, Proper, Laminar, laminar-at}
 
 sum-take : (i j : ℕ) (L : List ℕ) → i ≤ j → sum (take i L) ≤ sum (take j L)

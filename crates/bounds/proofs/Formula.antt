@@ -6,9 +6,9 @@ use mathlib.Core.Logic.{inl, inr, ⊎-elim}
 use mathlib.Core.Path.{_≡_, refl, sym}
 use native.Mathlib.Nat.{eq-or-lt-of-le}
 use native.Mathlib.Omega.{arith}
-use Rattle.bounds.specs.Ranges.{Range, Peptides, has, card, count, those, parts, outside}
+use Rattle.bounds.specs.Ranges.{Range, Peptides, has, card, count, those, parts, outside, In}
 use Rattle.bounds.specs.Bound.{total, value, bound, IsLargest}
-use Rattle.bounds.proofs.Members.{test, le-or-lt, clash, and-l, and-r, and-both, ands, In, in-those, those-in, sum-mono}
+use Rattle.bounds.proofs.Members.{test, le-or-lt, clash, and-l, and-r, and-both, ands, in-those, those-in, sum-mono}
 use Rattle.bounds.proofs.Counting.{Subset, none, card-mono, card-but-one, adding, adding-other, count-mono, Contains, cover-in, partition-in}
 use Rattle.bounds.proofs.Nesting.{Inside, inside-trans, Part, part-facts, inner, inner-facts, inner-holds, Below, inward}
 use Rattle.bounds.proofs.Laminar.{Laminar, meet, Hosts, member-hosts, parts-apart, in-a-part, Around, around-hosts, around-count, line, line-around}

@@ -8,9 +8,9 @@ use native.Mathlib.Omega.{arith}
 use lib.Dec.{leb, eqb}
 use borrow.Author.Tests.{leb-true, le-leb, eqb-true, eq-eqb}
 use Rattle.bounds.specs.Curves.{among}
-use Rattle.bounds.specs.Ranges.{Range, Peptides, has, card, count, some}
+use Rattle.bounds.specs.Ranges.{Range, Peptides, has, card, count, some, In}
 use Rattle.bounds.specs.Bound.{Admissible}
-use Rattle.bounds.proofs.Members.{test, le-or-lt, clash, refuted, ands, bit, In, some-in, some-found, nowhere-facts}
+use Rattle.bounds.proofs.Members.{test, le-or-lt, clash, refuted, ands, bit, some-in, some-found, nowhere-facts}
 use Rattle.bounds.proofs.Counting.{Subset, none, card-adding, adding, adding-it, adding-old, adding-either, count-mono, count-none, count-adding-most, count-adding-other}
 
 -- Sets that respect all ranges.
@@ -65,8 +65,8 @@ unfoldable pub blocked : ℕ → List Range → Peptides → ℕ → Bool
 blocked m R G p = some (λ r. has r p && leb (r .z) (count m G r)) R
 
 -- the set after the step
-unfoldable pub mark : ℕ → List Range → Peptides → ℕ → Peptides
-mark m R G p = cond (blocked m R G p) G (adding p G)
+unfoldable pub afterStep : ℕ → List Range → Peptides → ℕ → Peptides
+afterStep m R G p = cond (blocked m R G p) G (adding p G)
 
 module _ (m : ℕ) (R : List Range) (G : Peptides) (p : ℕ) where
   pub blocked-facts : blocked m R G p ≡ true → Stopped m R G p
@@ -97,22 +97,22 @@ module _ (m : ℕ) (R : List Range) (G : Peptides) (p : ℕ) where
       (test (has r p))
 
   -- the two cases of a step
-  mark-cases : (P : Peptides → Type 0) → (blocked m R G p ≡ true → P G) → (blocked m R G p ≡ false → P (adding p G)) → P (mark m R G p)
-  unfolding mark
+  mark-cases : (P : Peptides → Type 0) → (blocked m R G p ≡ true → P G) → (blocked m R G p ≡ false → P (adding p G)) → P (afterStep m R G p)
+  unfolding afterStep
   mark-cases P stay add = go (blocked m R G p) refl
     where
       go : (b : Bool) → blocked m R G p ≡ b → P (cond b G (adding p G))
       go true e = stay e
       go false e = add e
 
-  pub mark-old : (x : ℕ) → G x ≡ true → mark m R G p x ≡ true
+  pub mark-old : (x : ℕ) → G x ≡ true → afterStep m R G p x ≡ true
   mark-old x h = mark-cases (λ H. H x ≡ true) (λ e. h) (λ e. adding-old p G x h)
 
-  pub mark-new : (x : ℕ) → mark m R G p x ≡ true → (x ≡ p) ⊎ (G x ≡ true)
+  pub mark-new : (x : ℕ) → afterStep m R G p x ≡ true → (x ≡ p) ⊎ (G x ≡ true)
   mark-new x = mark-cases (λ H. H x ≡ true → (x ≡ p) ⊎ (G x ≡ true)) (λ e h. inr h) (λ e h. adding-either p G x h)
 
   -- a mark counts one
-  pub mark-card : 0 < p → p ≤ m → G p ≡ false → card m (mark m R G p) ≡ card m G + bit (not (blocked m R G p))
+  pub mark-card : 0 < p → p ≤ m → G p ≡ false → card m (afterStep m R G p) ≡ card m G + bit (not (blocked m R G p))
   mark-card l u f =
       mark-cases (λ H. card m H ≡ card m G + bit (not (blocked m R G p))) (λ e. rw e (omega arith))
       (λ e. rw e (omega (arith, card-adding m p G l u f)))
@@ -132,7 +132,7 @@ module _ (m : ℕ) (R : List Range) (G : Peptides) (p : ℕ) where
         (adding-either p S x s)
 
     -- one more peptide
-    pub walked-step : Walked m R (adding p S) (mark m R G p)
+    pub walked-step : Walked m R (adding p S) (afterStep m R G p)
     walked-step = mark-cases (Walked m R (adding p S)) stay (λ e. record { respects = open-respects e (w .respects); fills = still })
 
 -- The walk along a list.
@@ -148,25 +148,25 @@ among-holds ps p i = some-in (λ q. eqb p q) ps p i (eq-eqb p p refl)
 -- the peptides marked in the end, from the start set G on
 unfoldable pub greedy : ℕ → List Range → Peptides → List ℕ → Peptides
 greedy m R G [] = G
-greedy m R G (p ∷ ps) = greedy m R (mark m R G p) ps
+greedy m R G (p ∷ ps) = greedy m R (afterStep m R G p) ps
 
-pub greedy-snoc : (m : ℕ) (R : List Range) (G : Peptides) (ps : List ℕ) (p : ℕ) → greedy m R G (ps ++ p ∷ []) ≡ mark m R (greedy m R G ps) p
+pub greedy-snoc : (m : ℕ) (R : List Range) (G : Peptides) (ps : List ℕ) (p : ℕ) → greedy m R G (ps ++ p ∷ []) ≡ afterStep m R (greedy m R G ps) p
 unfolding greedy
 greedy-snoc m R G [] p = refl
-greedy-snoc m R G (q ∷ ps) p = greedy-snoc m R (mark m R G q) ps p
+greedy-snoc m R G (q ∷ ps) p = greedy-snoc m R (afterStep m R G q) ps p
 
 -- the start set stays
 pub greedy-old : (m : ℕ) (R : List Range) (G : Peptides) (ps : List ℕ) (x : ℕ) → G x ≡ true → greedy m R G ps x ≡ true
 unfolding greedy
 greedy-old m R G [] x h = h
-greedy-old m R G (p ∷ ps) x h = greedy-old m R (mark m R G p) ps x (mark-old m R G p x h)
+greedy-old m R G (p ∷ ps) x h = greedy-old m R (afterStep m R G p) ps x (mark-old m R G p x h)
 
 -- what is not of the start set is on the list
 pub greedy-new : (m : ℕ) (R : List Range) (G : Peptides) (ps : List ℕ) (x : ℕ) → greedy m R G ps x ≡ true → In x ps ⊎ (G x ≡ true)
 unfolding greedy
 greedy-new m R G [] x h = inr h
 greedy-new m R G (p ∷ ps) x h =
-    ⊎-elim (λ i. inl (inr i)) (λ k. ⊎-elim (λ e. inl (inl e)) inr (mark-new m R G p x k)) (greedy-new m R (mark m R G p) ps x h)
+    ⊎-elim (λ i. inl (inr i)) (λ k. ⊎-elim (λ e. inl (inl e)) inr (mark-new m R G p x k)) (greedy-new m R (afterStep m R G p) ps x h)
 
 -- X is what was walked before and what is on the list
 walk : (m : ℕ) (R : List Range) (S X G : Peptides) (ps : List ℕ) → Walked m R S G → ((x : ℕ) → X x ≡ true → In x ps ⊎ (S x ≡ true))
@@ -174,7 +174,7 @@ walk : (m : ℕ) (R : List Range) (S X G : Peptides) (ps : List ℕ) → Walked 
 unfolding greedy
 walk m R S X G [] w h = walked-less X (λ x l u e. ⊎-elim absurd (λ s. s) (h x e)) w
 walk m R S X G (p ∷ ps) w h =
-    walk m R (adding p S) X (mark m R G p) ps (walked-step m R G p S w) (λ x e. ⊎-elim (on x) (λ s. inr (adding-old p S x s)) (h x e))
+    walk m R (adding p S) X (afterStep m R G p) ps (walked-step m R G p S w) (λ x e. ⊎-elim (on x) (λ s. inr (adding-old p S x s)) (h x e))
   where
     on : (x : ℕ) → (x ≡ p) ⊎ In x ps → In x ps ⊎ (adding p S x ≡ true)
     on x (inl e) = inr (rw e (adding-it p S))

@@ -13,7 +13,7 @@ use borrow.Author.Tests.{leb-true, le-leb}
 use Rattle.reader.specs.Family.{Family, regionCount, region, leafOf}
 use Rattle.reader.specs.WellFormed.{Ordered, NestedBelow, IsParent}
 use Rattle.reader.proofs.Below.{some-at, none-below}
-use Rattle.bounds.specs.Walks.{holdsLeaf, Begun, LastHolding, crowded, CountedOne, Stepped}
+use Rattle.bounds.specs.Walks.{holdsLeaf, HowManyBegun, LastHolding, crowded, CountedOne, MarkedNext}
 use Rattle.bounds.proofs.Members.{test, refuted, and-l, and-r, and-both, le-or-lt, bit}
 
 -- Numbers up to and from a number.
@@ -42,15 +42,15 @@ module _ (F : Family) (leaf : ℕ) where
 -- The search for the last region that begins at the leaf or before it.
 
 -- the first `low` regions begin at the leaf or before it, and those from `high` on after it
-abbrev pub Between : Family → ℕ → ℕ → ℕ → Type 0
-Between F leaf low high =
+abbrev pub BegunBetween : Family → ℕ → ℕ → ℕ → Type 0
+BegunBetween F leaf low high =
     (low ≤ high)
     × (high ≤ regionCount F)
     × ((i : ℕ) → i < low → region F i .first ≤ leaf)
     × ((i : ℕ) → high ≤ i → i < regionCount F → leaf < region F i .first)
 
-module _ (F : Family) (o : Ordered F) (leaf low high : ℕ) (inv : Between F leaf low high) where
-  pub search-right : (k : ℕ) → k < high → region F k .first ≤ leaf → Between F leaf (k + 1) high
+module _ (F : Family) (o : Ordered F) (leaf low high : ℕ) (inv : BegunBetween F leaf low high) where
+  pub search-right : (k : ℕ) → k < high → region F k .first ≤ leaf → BegunBetween F leaf (k + 1) high
   search-right k l h = (
     omega arith,
     inv .1,
@@ -60,7 +60,7 @@ module _ (F : Family) (o : Ordered F) (leaf low high : ℕ) (inv : Between F lea
     inv .3,
   )
 
-  pub search-left : (k : ℕ) → low ≤ k → k < high → leaf < region F k .first → Between F leaf low k
+  pub search-left : (k : ℕ) → low ≤ k → k < high → leaf < region F k .first → BegunBetween F leaf low k
   search-left k l u h = (
     l,
     omega (arith, inv .1),
@@ -68,22 +68,22 @@ module _ (F : Family) (o : Ordered F) (leaf low high : ℕ) (inv : Between F lea
     λ i a b. ⊎-elim (λ e. rw (← e) h) (λ d. omega (arith, o .rising k i d b)) (eq-or-lt-of-le a),
   )
 
-  pub search-ends : high ≤ low → Begun F leaf low
+  pub search-ends : high ≤ low → HowManyBegun F leaf low
   search-ends h =
       record { most = omega (arith, inv .1); begins = inv .2; later = λ i a b. inv .3 i (omega arith) b }
 
 -- The climb from there to the last region that holds the leaf.
 
-abbrev pub Climbing : Family → ℕ → ℕ → Type 0
-Climbing F leaf c =
+abbrev pub HoldersBelow : Family → ℕ → ℕ → Type 0
+HoldersBelow F leaf c =
     (c ≤ regionCount F)
     × ((i : ℕ) → i < c → region F i .first ≤ leaf)
     × ((i : ℕ) → c ≤ i → i < regionCount F → holdsLeaf F leaf i ≡ false)
 
-pub climb-starts : (F : Family) (leaf c : ℕ) → Begun F leaf c → Climbing F leaf c
+pub climb-starts : (F : Family) (leaf c : ℕ) → HowManyBegun F leaf c → HoldersBelow F leaf c
 climb-starts F leaf c b = (b .most, b .begins, λ i l u. not-holding F leaf i (λ x y. omega (arith, b .later i l u)))
 
-module _ (F : Family) (leaf c : ℕ) (inv : Climbing F leaf c) where
+module _ (F : Family) (leaf c : ℕ) (inv : HoldersBelow F leaf c) where
   pub climb-ends : c ≡ 0 → LastHolding F leaf 0
   climb-ends e = record { most = omega arith; holds = λ j d. absurd (omega arith); last = λ i l u. inv .2 i (omega arith) u }
 
@@ -96,7 +96,7 @@ module _ (F : Family) (leaf c : ℕ) (inv : Climbing F leaf c) where
           last = inv .2;
         }
 
-    pub climb-steps : (p : ℕ) → region F (c - 1) .last < leaf → IsParent F (c - 1) p → Climbing F leaf p
+    pub climb-steps : (p : ℕ) → region F (c - 1) .last < leaf → IsParent F (c - 1) p → HoldersBelow F leaf p
     climb-steps p h par = (
       omega (arith, par .earlier, inv .0),
       λ i l. inv .1 i (omega (arith, par .earlier)),
@@ -135,18 +135,18 @@ module _ (F : Family) (o : Ordered F) (nested : NestedBelow F (regionCount F)) (
 -- Whether a region on the chain is crowded.
 
 -- the k-th region holds the leaf and has no room left
-abbrev pub full : Family → List ℕ → ℕ → ℕ → Bool
-full F C leaf k = holdsLeaf F leaf k && leb (region F k .z) (getD C k 0)
+abbrev pub crowdedAt : Family → List ℕ → ℕ → ℕ → Bool
+crowdedAt F C leaf k = holdsLeaf F leaf k && leb (region F k .z) (getD C k 0)
 
 -- none of the regions from c on is
 abbrev pub RoomFrom : Family → List ℕ → ℕ → ℕ → Type 0
-RoomFrom F C leaf c = (i : ℕ) → c ≤ i → i < regionCount F → full F C leaf i ≡ false
+RoomFrom F C leaf c = (i : ℕ) → c ≤ i → i < regionCount F → crowdedAt F C leaf i ≡ false
 
-not-full : (F : Family) (C : List ℕ) (leaf k : ℕ) → holdsLeaf F leaf k ≡ false → full F C leaf k ≡ false
-not-full F C leaf k h = rw h
+not-crowded : (F : Family) (C : List ℕ) (leaf k : ℕ) → holdsLeaf F leaf k ≡ false → crowdedAt F C leaf k ≡ false
+not-crowded F C leaf k h = rw h
 
 pub room-starts : (F : Family) (C : List ℕ) (leaf c : ℕ) → LastHolding F leaf c → RoomFrom F C leaf c
-room-starts F C leaf c h i l u = not-full F C leaf i (h .last i l u)
+room-starts F C leaf c h i l u = not-crowded F C leaf i (h .last i l u)
 
 pub chain-starts : (F : Family) (leaf c : ℕ) → LastHolding F leaf c → Chain F leaf c
 chain-starts F leaf c h = (h .most, h .holds)
@@ -154,24 +154,24 @@ chain-starts F leaf c h = (h .most, h .holds)
 module _ (F : Family) (C : List ℕ) (leaf : ℕ) where
   pub room-ends : (c : ℕ) → RoomFrom F C leaf c → c ≡ 0 → crowded F C leaf ≡ false
   unfolding crowded
-  room-ends c room e = none-below (full F C leaf) (regionCount F) (λ k l. room k (omega arith) l)
+  room-ends c room e = none-below (crowdedAt F C leaf) (regionCount F) (λ k l. room k (omega arith) l)
 
   module _ (o : Ordered F) (nested : NestedBelow F (regionCount F)) (c : ℕ) (chain : Chain F leaf c) (some : c ≡ 0 → ⊥) where
     pub is-crowded : region F (c - 1) .z ≤ getD C (c - 1) 0 → crowded F C leaf ≡ true
     unfolding crowded
     is-crowded h =
-        some-at (full F C leaf) (regionCount F) (c - 1) (omega (arith, chain .0))
+        some-at (crowdedAt F C leaf) (regionCount F) (c - 1) (omega (arith, chain .0))
         (and-both (holdsLeaf F leaf (c - 1)) (leb (region F (c - 1) .z) (getD C (c - 1) 0)) (chain-here F o nested leaf c chain some) (le-leb (region F (c - 1) .z) (getD C (c - 1) 0) h))
 
     pub room-steps : (p : ℕ) → IsParent F (c - 1) p → RoomFrom F C leaf c → getD C (c - 1) 0 < region F (c - 1) .z → RoomFrom F C leaf p
     room-steps p par room h i l u =
         ⊎-elim
-        (λ d. not-full F C leaf i (chain-passes F o nested leaf c chain some p par i l d))
+        (λ d. not-crowded F C leaf i (chain-passes F o nested leaf c chain some p par i l d))
         (λ d. ⊎-elim (λ e. rw e here) (λ a. room i a u) d)
         (at-or-beside i c some)
       where
-        here : full F C leaf (c - 1) ≡ false
-        here = refuted (full F C leaf (c - 1)) (λ t. omega (arith, leb-true (region F (c - 1) .z) (getD C (c - 1) 0) (and-r (holdsLeaf F leaf (c - 1)) (leb (region F (c - 1) .z) (getD C (c - 1) 0)) t)))
+        here : crowdedAt F C leaf (c - 1) ≡ false
+        here = refuted (crowdedAt F C leaf (c - 1)) (λ t. omega (arith, leb-true (region F (c - 1) .z) (getD C (c - 1) 0) (and-r (holdsLeaf F leaf (c - 1)) (leb (region F (c - 1) .z) (getD C (c - 1) 0)) t)))
 
 -- One more in every region on the chain.
 
@@ -214,7 +214,7 @@ module _ (F : Family) (o : Ordered F) (nested : NestedBelow F (regionCount F)) (
 -- A whole step.
 
 module _ (F : Family) (C : List ℕ) (p : ℕ) where
-  pub step-stays : crowded F C (leafOf F p) ≡ true → Stepped F C p C 0
+  pub step-stays : crowded F C (leafOf F p) ≡ true → MarkedNext F C p C 0
   step-stays h =
       record {
         same = refl;
@@ -222,5 +222,5 @@ module _ (F : Family) (C : List ℕ) (p : ℕ) where
         counted = λ k l. ⊎-elim (λ t. rw t (omega arith)) (λ f. rw f (omega arith)) (test (holdsLeaf F (leafOf F p) k));
       }
 
-  pub step-counts : (D : List ℕ) → crowded F C (leafOf F p) ≡ false → CountedOne F C (leafOf F p) D → Stepped F C p D 1
+  pub step-counts : (D : List ℕ) → crowded F C (leafOf F p) ≡ false → CountedOne F C (leafOf F p) D → MarkedNext F C p D 1
   step-counts D h one = record { same = one .same; marked = rw h; counted = one .counted }

@@ -7,8 +7,8 @@ use mathlib.Core.Logic.{_⊎_, inl, inr, ⊎-elim}
 use mathlib.Core.Path.{_≡_, refl, sym, _∙_, ap}
 use native.Mathlib.Omega.{arith}
 use lib.ListN.{length, getD}
-use Rattle.bounds.specs.Ranges.{Range, Peptides, has, card, count, those, inside, justInside, parts, outside}
-use Rattle.bounds.proofs.Members.{In, Place, place, some-in, those-in}
+use Rattle.bounds.specs.Ranges.{Range, Peptides, has, card, count, those, inside, justInside, parts, outside, In}
+use Rattle.bounds.proofs.Members.{Place, place, some-in, those-in}
 use Rattle.bounds.proofs.Counting.{card-same, Disjoint, Apart, Contains}
 use Rattle.bounds.proofs.Nesting.{has-facts, has-holds, Inside, inside-self, just-facts, part-holds, inner, part-around}
 

@@ -1,15 +1,15 @@
 -- Tests read as facts; the members of a list, searches through it, and sums over it.
 use Prim.Native.Nat.{ℕ, zero, suc, _≤_, _<_}
-use mathlib.Core.Bool.{Bool, true, false, not, cond, _&&_, _||_, true≢false}
+use mathlib.Core.Bool.{Bool, true, false, not, cond, _&&_}
 use mathlib.Core.List.{List, [], _∷_}
 use mathlib.Core.Logic.{_⊎_, inl, inr, ⊎-elim}
-use mathlib.Core.Path.{_≡_, refl, sym, _∙_, ap}
+use mathlib.Core.Path.{_≡_, refl, sym, ap}
 use native.Mathlib.Omega.{arith}
 use lib.Dec.{leb}
 use lib.ListN.{length, getD}
 use borrow.Author.Tests.{leb-true, leb-false, not-true}
 pub use Rattle.reader.proofs.Bools.{test, clash, refuted, both-ways, and-l, and-r, and-both, ands, or-l, or-r, or-either}
-use Rattle.bounds.specs.Ranges.{some, those, sumOver}
+use Rattle.bounds.specs.Ranges.{some, those, sumOver, In}
 
 -- Tests.
 
@@ -27,10 +27,6 @@ bit-mono false b h = omega arith
 -- Members of a list.
 
 module _ {A : Type 0} where
-  abbrev pub In : A → List A → Type 0
-  In x [] = ⊥
-  In x (y ∷ L) = (x ≡ y) ⊎ In x L
-
   -- where a member stands
   pub record Place (x : A) (L : List A) (d : A) : Type 0 where
     pub at : ℕ

@@ -7,8 +7,8 @@ use mathlib.Core.Path.{_≡_, refl, ap}
 use native.Mathlib.Omega.{arith}
 use lib.ListN.{length}
 use borrow.Author.Tests.{leb-true, le-leb, ltb-true, lt-ltb, not-true}
-use Rattle.bounds.specs.Ranges.{Range, has, some, those, sumOver, within, inside, justInside, parts}
-use Rattle.bounds.proofs.Members.{le-or-lt, clash, refuted, and-l, and-r, and-both, ands, bit, bit-mono, In, Found, nowhere-facts, nowhere-holds, search-for, in-those, those-in, sum-mono, sum-less, sum-ones}
+use Rattle.bounds.specs.Ranges.{Range, has, some, those, sumOver, within, inside, justInside, parts, In}
+use Rattle.bounds.proofs.Members.{le-or-lt, clash, refuted, and-l, and-r, and-both, ands, bit, bit-mono, Found, nowhere-facts, nowhere-holds, search-for, in-those, those-in, sum-mono, sum-less, sum-ones}
 
 -- The tests as inequalities.
 

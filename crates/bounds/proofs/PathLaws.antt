@@ -17,7 +17,7 @@ use Rattle.reader.specs.Causes.{Cause, firstCause, headerCauses, familyCauses, 
 use Rattle.reader.specs.WellFormed.{ParentsBelow}
 use Rattle.reader.proofs.Bools.{or-fails-l, or-fails-r}
 use Rattle.reader.proofs.Below.{none-at, none-below, first-at, first-none}
-use Rattle.reader.proofs.First.{Numbered, head-clear, join-clear, join-holds}
+use Rattle.reader.proofs.First.{head-clear, join-clear, join-holds}
 use Rattle.reader.proofs.Accepting.{well-formed, accepted-header, few-regions, file-numbered}
 use Rattle.bounds.specs.Curves.{cause11, cause12, repeated, cause13}
 use Rattle.bounds.specs.Calls.{pathCauses}

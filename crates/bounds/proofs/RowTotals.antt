@@ -10,10 +10,10 @@ use lib.ListN.{length, getD}
 use Rattle.reader.specs.Family.{Family, leaves, regionCount, region, peptidesUpTo}
 use Rattle.reader.specs.WellFormed.{WellFormed}
 use Rattle.reader.proofs.Walk.{up-to-end, nothing-before}
-use Rattle.bounds.specs.Ranges.{Range, Peptides, card, count, those, sumOver, justInside, parts, rangeOf, rangesOf}
+use Rattle.bounds.specs.Ranges.{Range, Peptides, card, count, those, sumOver, justInside, parts, rangeOf, rangesOf, In, rangeAt}
 use Rattle.bounds.specs.Bound.{total, value}
-use Rattle.bounds.specs.Rows.{rangeAt, wholeLine, rowRange, leafBefore, lastLeaf}
-use Rattle.bounds.proofs.Members.{le-or-lt, refuted, In, place}
+use Rattle.bounds.specs.Rows.{wholeLine, rowRange, leafBefore, lastLeaf}
+use Rattle.bounds.proofs.Members.{le-or-lt, refuted, place}
 use Rattle.bounds.proofs.Counting.{count-between, partition-in}
 use Rattle.bounds.proofs.Nesting.{Inside, just-facts, just-holds, part-facts}
 use Rattle.bounds.proofs.Laminar.{Laminar, Hosts, member-hosts, parts-apart, Around, around-hosts}
@@ -60,7 +60,7 @@ sum-those d t f (x ∷ L) = omega (arith, sum-those d t f L, sum-front (length L
     head false = omega arith
 
 pub range-z : (F : Family) (k : ℕ) → rangeAt F k .z ≡ region F k .z
-unfolding rangeAt rangeOf
+unfolding rangeOf
 range-z F k = refl
 
 -- Region k is just inside the range of the row that begins at region b.
@@ -79,18 +79,16 @@ module _ {F : Family} (w : WellFormed F) where
 
   -- a member is the range of a region
   pub member-at : (t : Range) → In t (rangesOf F) → (k : ℕ) × (k < regionCount F) × (t ≡ rangeAt F k)
-  unfolding rangeAt
   member-at t i =
       let p = place (noRange F) (rangesOf F) t i in
       (p .at, omega (arith, p .inRange, ranges-length F), p .there ∙ range-at F (p .at))
 
   pub at-member : (k : ℕ) → k < regionCount F → In (rangeAt F k) (rangesOf F)
-  unfolding rangeAt
   at-member k l = range-in F k l
 
   -- Region k is inside region i exactly if it comes later and begins before region i ends.
   pub inside-before : (k i : ℕ) → k < regionCount F → i < regionCount F → Inside (rangeAt F k) (rangeAt F i) → (i < k) × (region F k .first ≤ region F i .last)
-  unfolding rangeAt rangeOf
+  unfolding rangeOf
   inside-before k i lk li n =
       let o = w .ordered in (
         ⊎-elim
@@ -101,7 +99,7 @@ module _ {F : Family} (w : WellFormed F) where
       )
 
   pub inside-block : (k i : ℕ) → i < k → k < regionCount F → region F k .first ≤ region F i .last → Inside (rangeAt F k) (rangeAt F i)
-  unfolding rangeAt rangeOf
+  unfolding rangeOf
   inside-block k i l lk h =
       let o = w .ordered in
       let rise = o .rising i k l lk in
@@ -117,7 +115,7 @@ module _ {F : Family} (w : WellFormed F) where
   row-inner (suc i) k h l n = inside-before k i l h n
 
   line-holds : (k : ℕ) → k < regionCount F → Inside (rangeAt F k) (wholeLine F)
-  unfolding rangeAt rangeOf wholeLine
+  unfolding rangeOf wholeLine
   line-holds k l = record { left = omega arith; right = omega (arith, w .ordered .last-leaf k l); less = omega (arith, w .ordered .last-leaf k l, w .ordered .first-some k l) }
 
   pub row-block : (b k : ℕ) → b ≤ k → k < regionCount F → region F k .first ≤ lastLeaf F b → Inside (rangeAt F k) (rowRange F b)
@@ -172,7 +170,7 @@ module _ {F : Family} (w : WellFormed F) where
   -- Sums over the parts of a row.
 
   pub part-sum-all : (b : ℕ) (f : Range → ℕ) → sumOver f (parts (rangesOf F) (rowRange F b)) ≡ partSum F b f (regionCount F)
-  unfolding parts partSum rangeAt
+  unfolding parts partSum
   part-sum-all b f =
       let q = rowRange F b in
       let t : Range → Bool = λ r. justInside (rangesOf F) r q in
@@ -200,7 +198,7 @@ module _ {F : Family} (w : WellFormed F) where
 
   pub region-counted : (S : Peptides) (k : ℕ) → k < regionCount F
       → card (peptidesUpTo F (region F k .first - 1)) S + count (F .peptides) S (rangeAt F k) ≡ card (peptidesUpTo F (region F k .last)) S
-  unfolding rangeAt rangeOf
+  unfolding rangeOf
   region-counted S k l =
       count-between (F .peptides) S (rangeOf F (region F k))
       (upTo-mono F (region F k .first - 1) (region F k .last) (omega (arith, w .ordered .first-last k l)))

@@ -14,12 +14,12 @@ use borrow.Author.Tests.{leb-true, leb-false, ltb-true, ltb-false}
 use Rattle.reader.specs.Family.{Family, leaves, regionCount, region, peptidesUpTo}
 use Rattle.reader.specs.WellFormed.{WellFormed}
 use Rattle.reader.proofs.Bools.{and-l, and-r, and-fails}
-use Rattle.bounds.specs.Ranges.{Range, card, count, rangesOf}
+use Rattle.bounds.specs.Ranges.{Range, card, count, rangesOf, rangeAt}
 use Rattle.bounds.specs.Bound.{total, value}
 use Rattle.bounds.specs.Selections.{selected, boundOf}
 use Rattle.bounds.specs.declared.cursor.Cursor.{Cursor}
 use Rattle.bounds.specs.declared.cursor.Counted.{Counted}
-use Rattle.bounds.specs.Rows.{rangeAt, rowRange, leafBefore, lastLeaf, beginsBy, Ready, OnLeaf, Passed, Walked, Stored, RegionWalked, RowWalked, RegionReady, RowReady, LineWalked}
+use Rattle.bounds.specs.Rows.{rowRange, leafBefore, lastLeaf, beginsBy, Ready, OnLeaf, PassedTo, WalkedOver, Stored, RegionWalked, RowWalked, RegionReady, RowReady, LineWalked}
 use Rattle.reader.proofs.Walk.{nothing-before}
 use Rattle.bounds.proofs.Members.{le-or-lt}
 use Rattle.bounds.proofs.Totals.{bound-is}
@@ -51,7 +51,7 @@ module _ {F : Family} {selection : List ℕ} where
 
 -- Where the next region begins.
 
-pub passed-to : {F : Family} {selection : List ℕ} {c : Cursor} {r : Counted} {k l : ℕ} → k ≡ l → Passed F selection c k r → Passed F selection c l r
+pub passed-to : {F : Family} {selection : List ℕ} {c : Cursor} {r : Counted} {k l : ℕ} → k ≡ l → PassedTo F selection c k r → PassedTo F selection c l r
 passed-to e p = rw e at p
 
 begins-facts : (F : Family) (k last : ℕ) → beginsBy F k last ≡ true → (k < regionCount F) × (region F k .first ≤ last)
@@ -124,7 +124,7 @@ module _ {F : Family} {selection : List ℕ} (w : WellFormed F) where
     row-meets e = let h = begins-facts F (c .region) (lastLeaf F b) e in (h .0, a .ahead (h .0))
 
     pub region-meets : (totals : List ℕ) (p : Counted) → Ready F selection → regionCount F ≤ length totals → beginsBy F (c .region) (lastLeaf F b) ≡ true
-        → Passed F selection c (region F (c .region) .first - 1) p → RegionReady F selection totals (p .at)
+        → PassedTo F selection c (region F (c .region) .first - 1) p → RegionReady F selection totals (p .at)
     region-meets totals p r room e q =
         let h = begins-facts F (c .region) (lastLeaf F b) e in
         record {
@@ -136,7 +136,7 @@ module _ {F : Family} {selection : List ℕ} (w : WellFormed F) where
         }
 
     -- and what is counted up to there is no more than the peptides,
-    pub pass-fits : (p : Counted) (l : ℕ) → l ≤ leaves F → Passed F selection c l p → n + p .count ≤ 4096
+    pub pass-fits : (p : Counted) (l : ℕ) → l ≤ leaves F → PassedTo F selection c l p → n + p .count ≤ 4096
     pass-fits p l h passed =
         let S = selected selection in
         omega (arith, a .few, passed .counted, card-most (p .at .peptide .0) S, passed .peptide, leaf-most w l h, w .peptides-most)
@@ -148,7 +148,7 @@ module _ {F : Family} {selection : List ℕ} (w : WellFormed F) where
 
     -- goes on after it,
     pub row-steps : (p q : Counted) (old new : List ℕ) → beginsBy F (c .region) (lastLeaf F b) ≡ true
-        → Passed F selection c (region F (c .region) .first - 1) p → RegionWalked F selection old new (p .at) q
+        → PassedTo F selection c (region F (c .region) .first - 1) p → RegionWalked F selection old new (p .at) q
         → Along F selection b start (q .at) (n + p .count + q .count)
     row-steps p q old new e passed walk =
         let S = selected selection in
@@ -193,10 +193,10 @@ module _ {F : Family} {selection : List ℕ} (w : WellFormed F) where
 
     -- and ends.
     pub row-ends : (r : Counted) → b ≤ regionCount F → start ≡ peptidesUpTo F (leafBefore F b) → beginsBy F (c .region) (lastLeaf F b) ≡ false
-        → Passed F selection c (lastLeaf F b) r
+        → PassedTo F selection c (lastLeaf F b) r
         → (n + r .count ≡ total (F .peptides) (rangesOf F) (selected selection) (rowRange F b))
         × (n + r .count + card start (selected selection) ≤ card (r .at .peptide .0) (selected selection))
-        × Walked F b (lastLeaf F b) (r .at .region)
+        × WalkedOver F b (lastLeaf F b) (r .at .region)
     row-ends r h from e passed =
         let S = selected selection in
         let m = F .peptides in
@@ -220,7 +220,7 @@ module _ {F : Family} {selection : List ℕ} (w : WellFormed F) where
 
   -- All that the row's call promises, with the totals stored on the way.
   pub row-finishes : (s c : Cursor) (n : ℕ) (r : Counted) (old new : List ℕ) (last v : ℕ) → Along F selection (s .region) (s .peptide .0) c n
-      → RowReady F selection old s last → beginsBy F (c .region) last ≡ false → Passed F selection c last r → Stored F selection old new (s .region) (c .region)
+      → RowReady F selection old s last → beginsBy F (c .region) last ≡ false → PassedTo F selection c last r → Stored F selection old new (s .region) (c .region)
       → v ≡ n + r .count → RowWalked F selection old new s (record { count = v; at = r .at })
   row-finishes s c n r old new last v a ready e passed stored ev =
       let b = s .region in
@@ -261,7 +261,7 @@ module _ {F : Family} {selection : List ℕ} where
   unfolding value rowRange lastLeaf
   region-finishes c old new z v r ready same ez ev row =
       let own : r .count ≡ total (F .peptides) (rangesOf F) (selected selection) (rangeAt F (c .region)) = rw add-one at (row .total) in
-      let walked : Walked F (suc (c .region)) (region F (c .region) .last) (r .at .region) = rw add-one at (row .walked) in
+      let walked : WalkedOver F (suc (c .region)) (region F (c .region) .last) (r .at .region) = rw add-one at (row .walked) in
       let stored : Stored F selection old new (suc (c .region)) (r .at .region) = rw add-one at (row .stored) in
       record {
         value = ev ∙ ap₂ min (ez ∙ sym (range-z F (c .region))) own;
@@ -295,7 +295,7 @@ module _ {F : Family} {selection : List ℕ} where
   unfolding rowRange lastLeaf boundOf
   line-finishes c r old new ready first row =
       let w = ready .formed in
-      let walked : Walked F 0 (leaves F) (r .at .region) = rw first at (row .walked) in
+      let walked : WalkedOver F 0 (leaves F) (r .at .region) = rw first at (row .walked) in
       let all : r .at .region ≡ regionCount F =
       ⊎-elim (λ e. e) (λ l. let k = r .at .region in absurd (omega (arith, walked .ahead l, w .ordered .first-last k l, w .ordered .last-leaf k l)))
       (eq-or-lt-of-le (walked .most)) in

@@ -6,9 +6,9 @@ use mathlib.Core.Logic.{⊎-elim}
 use mathlib.Core.Path.{_≡_, ap}
 use native.Mathlib.Omega.{arith}
 use borrow.Author.Tests.{ltb-true, lt-ltb}
-use Rattle.bounds.specs.Ranges.{Range, Peptides, has, card, count, some, those, sumOver, inside, outside}
+use Rattle.bounds.specs.Ranges.{Range, Peptides, has, card, count, some, those, sumOver, inside, outside, In}
 use Rattle.bounds.specs.Bound.{total, bound, full, isTaken}
-use Rattle.bounds.proofs.Members.{test, le-or-lt, clash, and-l, and-r, and-both, ands, In, some-in, nowhere-facts, nowhere-holds, in-those, those-in, sum-same}
+use Rattle.bounds.proofs.Members.{test, le-or-lt, clash, and-l, and-r, and-both, ands, some-in, nowhere-facts, nowhere-holds, in-those, those-in, sum-same}
 use Rattle.bounds.proofs.Counting.{Subset, card-mono, adding, adding-either, count-mono, count-adding, Apart, partition}
 use Rattle.bounds.proofs.Nesting.{Inside, inside-facts, inside-holds, inner, inner-facts, Below, inward, widest}
 use Rattle.bounds.proofs.Laminar.{Laminar, member-hosts, flat-apart, line, line-around}

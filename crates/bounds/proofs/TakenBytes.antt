@@ -15,12 +15,12 @@ use Rattle.reader.specs.Lists.{tabulate}
 use Rattle.reader.specs.Family.{Family, regionCount, region}
 use Rattle.reader.specs.WellFormed.{WellFormed}
 use Rattle.reader.proofs.Lists.{length-tabulate, getD-tabulate, copy-more}
-use Rattle.bounds.specs.Ranges.{Range, Peptides, rangeOf, rangesOf}
+use Rattle.bounds.specs.Ranges.{Range, Peptides, rangeOf, rangesOf, In, rangeAt}
 use Rattle.bounds.specs.Bound.{total, full, isTaken, takenBytes}
 use Rattle.bounds.specs.Selections.{selected, takenOf, totalsOf}
-use Rattle.bounds.specs.Rows.{rangeAt, Stored}
+use Rattle.bounds.specs.Rows.{Stored}
 use Rattle.bounds.specs.Takes.{takes, takenUntil, takenAt, takenAlong}
-use Rattle.bounds.proofs.Members.{test, le-or-lt, clash, both-ways, and-l, and-r, and-both, In}
+use Rattle.bounds.proofs.Members.{test, le-or-lt, clash, both-ways, and-l, and-r, and-both}
 use Rattle.bounds.proofs.Nesting.{Inside, inside-trans, AtOrIn, widest}
 use Rattle.bounds.proofs.Laminar.{line, line-around}
 use Rattle.bounds.proofs.Taken.{Taken, taken-facts, taken-holds, full-facts, full-holds}
@@ -56,7 +56,6 @@ written-below n g old new e room front back = sym (take-append-drop n new) ∙ r
 
 -- a list over the ranges of a family, by its regions
 over-regions : (F : Family) (f : Range → ℕ) → map f (rangesOf F) ≡ tabulate (regionCount F) (λ k. f (rangeAt F k))
-unfolding rangeAt
 over-regions F f =
     map-tabulate (noRange F) f (rangesOf F)
     ∙ ap (λ (n : ℕ). tabulate n (λ k. f (getD (rangesOf F) k (noRange F)))) (ranges-length F)

@@ -5,9 +5,9 @@ use mathlib.Core.List.{List}
 use mathlib.Core.Path.{_≡_, refl, _∙_, ap, ap₂}
 use native.Mathlib.Omega.{arith}
 use lib.ListN.{length}
-use Rattle.bounds.specs.Ranges.{Range, Peptides, has, count, some, sumOver, inside, justInside, parts, outermost, outside}
+use Rattle.bounds.specs.Ranges.{Range, Peptides, has, count, some, sumOver, inside, justInside, parts, outermost, outside, In}
 use Rattle.bounds.specs.Bound.{totalWithin, total, value, bound}
-use Rattle.bounds.proofs.Members.{clash, both-ways, and-both, ands, In, nowhere-facts, nowhere-holds, those-same, those-those, sum-same}
+use Rattle.bounds.proofs.Members.{clash, both-ways, and-both, ands, nowhere-facts, nowhere-holds, those-same, those-those, sum-same}
 use Rattle.bounds.proofs.Counting.{SameSet, card-same, count-same}
 use Rattle.bounds.proofs.Nesting.{Inside, inside-facts, inside-holds, inside-trans, JustInside, just-facts, just-holds, Part, part-facts, inner, inner-facts, inner-holds, deep, deep-less, deep-most, Below, inward}
 use Rattle.bounds.proofs.Laminar.{Laminar, Around, around-count, in-a-part}

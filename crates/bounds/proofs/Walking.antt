@@ -17,30 +17,27 @@ use Rattle.reader.specs.WellFormed.{WellFormed}
 use Rattle.reader.proofs.Below.{some-at, found}
 use Rattle.reader.proofs.Lists.{length-tabulate}
 use Rattle.reader.proofs.Walk.{FirstReaching, leaf-found}
-use Rattle.bounds.specs.Ranges.{Range, Peptides, rangeOf, rangesOf, has, card, count}
+use Rattle.bounds.specs.Ranges.{Range, Peptides, rangeOf, rangeAt, rangesOf, has, card, count, In}
 use Rattle.bounds.specs.Curves.{among, entry, markAt, largestUpTo}
 use Rattle.bounds.specs.Paths.{Distinct}
-use Rattle.bounds.specs.Walks.{holdsLeaf, crowded, Stepped}
-use Rattle.bounds.proofs.Members.{test, clash, refuted, both-ways, and-l, and-r, and-both, bit, bit-mono, le-or-lt, In, place}
+use Rattle.bounds.specs.Walks.{holdsLeaf, crowded, MarkedNext}
+use Rattle.bounds.proofs.Members.{test, clash, refuted, both-ways, and-l, and-r, and-both, bit, bit-mono, le-or-lt, place}
 use Rattle.bounds.proofs.Counting.{none, card-none, adding, count-none, count-adding, count-adding-other}
 use Rattle.bounds.proofs.Nesting.{has-facts, has-holds}
-use Rattle.bounds.proofs.Greedy.{blocked, blocked-facts, blocked-holds, mark, among-facts, greedy, greedy-snoc, greedy-new}
+use Rattle.bounds.proofs.Greedy.{blocked, blocked-facts, blocked-holds, afterStep, among-facts, greedy, greedy-snoc, greedy-new}
 use Rattle.bounds.proofs.Paths.{path-bound, entry-step}
 use Rattle.bounds.proofs.Family.{upTo-mono, noRange, ranges-length, range-at, range-in, family-laminar}
-use Rattle.bounds.proofs.Holding.{full, holds-facts, from-holds}
+use Rattle.bounds.proofs.Holding.{crowdedAt, holds-facts, from-holds}
 
 -- The ranges of a family, by the numbers of its regions.
 
-abbrev pub rangeAt : Family → ℕ → Range
-rangeAt F k = rangeOf F (region F k)
-
-pub record Numbered (F : Family) (r : Range) : Type 0 where
+pub record OfRegion (F : Family) (r : Range) : Type 0 where
   pub at : ℕ
   pub few : at < regionCount F
   pub is : r ≡ rangeAt F at
 
-pub range-numbered : (F : Family) (r : Range) → In r (rangesOf F) → Numbered F r
-range-numbered F r i =
+pub of-region : (F : Family) (r : Range) → In r (rangesOf F) → OfRegion F r
+of-region F r i =
     let p = place (noRange F) (rangesOf F) r i in
     record { at = p .at; few = omega (arith, p .inRange, ranges-length F); is = p .there ∙ range-at F (p .at) }
 
@@ -72,10 +69,10 @@ module _ {F : Family} (w : WellFormed F) where
 -- The counts of the regions.
 
 -- the list has the count of G in each region
-abbrev pub Counts : Family → Peptides → List ℕ → Type 0
-Counts F G C = (k : ℕ) → k < regionCount F → getD C k 0 ≡ count (F .peptides) G (rangeAt F k)
+abbrev pub RegionCounts : Family → Peptides → List ℕ → Type 0
+RegionCounts F G C = (k : ℕ) → k < regionCount F → getD C k 0 ≡ count (F .peptides) G (rangeAt F k)
 
-module _ {F : Family} (w : WellFormed F) (G : Peptides) (C : List ℕ) (counts : Counts F G C) (p : ℕ) (some : 1 ≤ p) (most : p ≤ F .peptides) where
+module _ {F : Family} (w : WellFormed F) (G : Peptides) (C : List ℕ) (counts : RegionCounts F G C) (p : ℕ) (some : 1 ≤ p) (most : p ≤ F .peptides) where
   -- a peptide may not be marked exactly if a region that holds its leaf is crowded
   pub crowded-blocked : crowded F C (leafOf F p) ≡ blocked (F .peptides) (rangesOf F) G p
   unfolding crowded rangeOf
@@ -83,7 +80,7 @@ module _ {F : Family} (w : WellFormed F) (G : Peptides) (C : List ℕ) (counts :
     where
       there : crowded F C (leafOf F p) ≡ true → blocked (F .peptides) (rangesOf F) G p ≡ true
       there e =
-          let f = found (full F C (leafOf F p)) (regionCount F) e in
+          let f = found (crowdedAt F C (leafOf F p)) (regionCount F) e in
           let k : ℕ = f .0 in
           let holds = and-l (holdsLeaf F (leafOf F p) k) (leb (region F k .z) (getD C k 0)) (f .2) in
           let filled = leb-true (region F k .z) (getD C k 0) (and-r (holdsLeaf F (leafOf F p) k) (leb (region F k .z) (getD C k 0)) (f .2)) in
@@ -93,19 +90,19 @@ module _ {F : Family} (w : WellFormed F) (G : Peptides) (C : List ℕ) (counts :
       back : blocked (F .peptides) (rangesOf F) G p ≡ true → crowded F C (leafOf F p) ≡ true
       back e =
           let s = blocked-facts (F .peptides) (rangesOf F) G p e in
-          let n = range-numbered F (s .by) (s .member) in
+          let n = of-region F (s .by) (s .member) in
           let k : ℕ = n .at in
           let holds : has (rangeAt F k) p ≡ true = rw (n .is) at (s .holds) in
           let filled : region F k .z ≤ count (F .peptides) G (rangeAt F k) = rw (n .is) at (s .filled) in
-          some-at (full F C (leafOf F p)) (regionCount F) k (n .few)
+          some-at (crowdedAt F C (leafOf F p)) (regionCount F) k (n .few)
           (and-both (holdsLeaf F (leafOf F p) k) (leb (region F k .z) (getD C k 0)) (sym (has-leaf w p k some most (n .few)) ∙ holds)
           (le-leb (region F k .z) (getD C k 0) (omega (arith, counts k (n .few)))))
 
   -- the counts after the step
-  pub counts-stay : (D : List ℕ) → Stepped F C p D 0 → Counts F G D
+  pub counts-stay : (D : List ℕ) → MarkedNext F C p D 0 → RegionCounts F G D
   counts-stay D s k h = s .counted k h ∙ (⊎-elim (λ t. rw t (omega (arith, counts k h))) (λ f. rw f (omega (arith, counts k h))) (test (holdsLeaf F (leafOf F p) k)))
 
-  pub counts-more : (D : List ℕ) → G p ≡ false → Stepped F C p D 1 → Counts F (adding p G) D
+  pub counts-more : (D : List ℕ) → G p ≡ false → MarkedNext F C p D 1 → RegionCounts F (adding p G) D
   counts-more D fresh s k h =
       let old = counts k h in
       let leaf = has-leaf w p k some most h in
@@ -121,7 +118,7 @@ unfolding card
 card-most zero X = omega arith
 card-most (suc m) X = omega (arith, card-most m X, bit-mono (X (suc m)) true (λ t. refl))
 
-pub counts-most : (F : Family) (G : Peptides) (C : List ℕ) → WellFormed F → Counts F G C → (k : ℕ) → k < regionCount F → getD C k 0 < 65535
+pub counts-most : (F : Family) (G : Peptides) (C : List ℕ) → WellFormed F → RegionCounts F G C → (k : ℕ) → k < regionCount F → getD C k 0 < 65535
 unfolding count
 counts-most F G C w counts k h = omega (arith, counts k h, card-most (F .peptides) (λ p. has (rangeAt F k) p && G p), w .peptides-most)
 
@@ -148,7 +145,7 @@ module _ {F : Family} {path : List ℕ} (well : WellFormed F) (is : Distinct (F 
       (λ e. ⊎-elim (λ i. not-before t h i) (λ n. clash n refl) (greedy-new (F .peptides) (rangesOf F) none (take t path) (getD path t 0) e))
 
   -- the set after one more place
-  marked-next : (t : ℕ) → t < length path → markedSet (suc t) ≡ mark (F .peptides) (rangesOf F) (markedSet t) (getD path t 0)
+  marked-next : (t : ℕ) → t < length path → markedSet (suc t) ≡ afterStep (F .peptides) (rangesOf F) (markedSet t) (getD path t 0)
   marked-next t h = ap (greedy (F .peptides) (rangesOf F) none) (take-suc path t 0 h) ∙ greedy-snoc (F .peptides) (rangesOf F) none (take t path) (getD path t 0)
 
   -- a region that holds the next peptide has as many marked as its z
@@ -156,11 +153,11 @@ module _ {F : Family} {path : List ℕ} (well : WellFormed F) (is : Distinct (F 
   stops t = blocked (F .peptides) (rangesOf F) (markedSet t) (getD path t 0)
 
   pub marked-stays : (t : ℕ) → t < length path → stops t ≡ true → markedSet (suc t) ≡ markedSet t
-  unfolding mark
+  unfolding afterStep
   marked-stays t h e = marked-next t h ∙ rw e
 
   pub marked-grows : (t : ℕ) → t < length path → stops t ≡ false → markedSet (suc t) ≡ adding (getD path t 0) (markedSet t)
-  unfolding mark
+  unfolding afterStep
   marked-grows t h e = marked-next t h ∙ rw e
 
   -- entry t + 1 is entry t, or one more
@@ -185,13 +182,13 @@ module _ {F : Family} {path : List ℕ} (well : WellFormed F) (is : Distinct (F 
   entry-start = sym (path-bound (family-laminar well) []) ∙ card-none (F .peptides) none (λ p l u. refl)
 
   -- One step: the mark and the entry are right, and the counts are those of the set after it.
-  pub record Next (t : ℕ) (D : List ℕ) (marked : ℕ) : Type 0 where
+  pub record RightStep (t : ℕ) (D : List ℕ) (marked : ℕ) : Type 0 where
     pub small : marked ≤ 1
     pub entered : entry F path (t + 1) ≡ entry F path t + marked
     pub right : marked ≡ markAt F path (t + 1)
-    pub counts : Counts F (markedSet (t + 1)) D
+    pub counts : RegionCounts F (markedSet (t + 1)) D
 
-  module _ (t : ℕ) (h : t < length path) (C D : List ℕ) (marked : ℕ) (counts : Counts F (markedSet t) C) (s : Stepped F C (getD path t 0) D marked) where
+  module _ (t : ℕ) (h : t < length path) (C D : List ℕ) (marked : ℕ) (counts : RegionCounts F (markedSet t) C) (s : MarkedNext F C (getD path t 0) D marked) where
     marked-bit : marked ≡ bit (not (stops t))
     marked-bit = s .marked ∙ rw (crowded-blocked well (markedSet t) C counts (getD path t 0) (is .some t h) (is .most t h)) (flip (stops t))
       where
@@ -199,18 +196,18 @@ module _ {F : Family} {path : List ℕ} (well : WellFormed F) (is : Distinct (F 
         flip true = refl
         flip false = refl
 
-    counts-next : Counts F (markedSet (suc t)) D
+    counts-next : RegionCounts F (markedSet (suc t)) D
     counts-next =
         ⊎-elim
         (λ e.
         rw (marked-stays t h e)
-        (counts-stay well (markedSet t) C counts (getD path t 0) (is .some t h) (is .most t h) D (subst (Stepped F C (getD path t 0) D) (marked-bit ∙ rw e) s)))
+        (counts-stay well (markedSet t) C counts (getD path t 0) (is .some t h) (is .most t h) D (subst (MarkedNext F C (getD path t 0) D) (marked-bit ∙ rw e) s)))
         (λ e.
         rw (marked-grows t h e)
-        (counts-more well (markedSet t) C counts (getD path t 0) (is .some t h) (is .most t h) D (not-marked t h) (subst (Stepped F C (getD path t 0) D) (marked-bit ∙ rw e) s)))
+        (counts-more well (markedSet t) C counts (getD path t 0) (is .some t h) (is .most t h) D (not-marked t h) (subst (MarkedNext F C (getD path t 0) D) (marked-bit ∙ rw e) s)))
         (test (stops t))
 
-    pub next : Next t D marked
+    pub next : RightStep t D marked
     next =
         record {
           small = ⊎-elim (λ e. omega (arith, marked-bit ∙ ap (λ b. bit (not b)) e)) (λ e. omega (arith, marked-bit ∙ ap (λ b. bit (not b)) e)) (test (stops t));
@@ -220,7 +217,7 @@ module _ {F : Family} {path : List ℕ} (well : WellFormed F) (is : Distinct (F 
         }
 
   -- no peptide is marked at the start
-  pub counts-start : (C : List ℕ) → ((k : ℕ) → k < regionCount F → getD C k 0 ≡ 0) → Counts F (markedSet 0) C
+  pub counts-start : (C : List ℕ) → ((k : ℕ) → k < regionCount F → getD C k 0 ≡ 0) → RegionCounts F (markedSet 0) C
   unfolding greedy
   counts-start C zeros k h = zeros k h ∙ sym (count-none (F .peptides) (rangeAt F k))
 

@@ -1,7 +1,7 @@
 -- The bound of a selection, the regions taken, and formula (3) of Durand, Blanchard, Neuvial and Roquain.
 -- Written once over the number of peptides m, a list of ranges R and a set of peptides S.
 use Prim.Native.Nat.{ℕ, zero, suc, _+_, _≤_, min}
-use mathlib.Core.Bool.{Bool, true, not, cond, _&&_}
+use mathlib.Core.Bool.{Bool, not, cond, _&&_}
 use mathlib.Core.List.{List, [], _∷_, map}
 use mathlib.Core.Path.{_≡_}
 use lib.ListN.{length}

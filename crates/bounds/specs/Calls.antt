@@ -5,7 +5,7 @@ use mathlib.Core.List.{List, [], _∷_, _++_}
 use mathlib.Core.Path.{_≡_}
 use lib.ListN.{length}
 use lib.Dec.{ltb}
-use Rattle.reader.specs.Family.{Family, familyOf, regionCount}
+use Rattle.reader.specs.Family.{familyOf, regionCount}
 use Rattle.reader.specs.Causes.{Cause, firstCause, fileCauses}
 use Rattle.reader.specs.Calls.{Report, answer}
 use Rattle.bounds.specs.Selections.{cause14}
@@ -45,13 +45,16 @@ reportCut (cutFound.Repeated p) = record { number = 13; values = p ∷ [] }
 unfoldable pub short : {A : Type 0} → ℕ → List A → Bool
 short needed out = ltb (length out) needed
 
--- taken bytes or totals under K
-unfoldable pub selectionCauses : List ℕ → List ℕ → List ℕ → List Cause
-selectionCauses file selection out =
+-- taken bytes or totals under K; room is the number of places for them
+unfoldable pub causesWithRoom : List ℕ → List ℕ → ℕ → List Cause
+causesWithRoom file selection room =
     fileCauses file
     ++ (record { number = 14; holds = cause14 (familyOf file .peptides) selection }
-    ∷ record { number = 16; holds = short (regionCount (familyOf file)) out }
+    ∷ record { number = 16; holds = ltb room (regionCount (familyOf file)) }
     ∷ [])
+
+abbrev pub selectionCauses : List ℕ → List ℕ → List ℕ → List Cause
+selectionCauses file selection out = causesWithRoom file selection (length out)
 
 unfoldable pub pathCauses : ℕ → List ℕ → List Cause
 pathCauses m path =

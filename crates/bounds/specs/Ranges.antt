@@ -1,9 +1,11 @@
 -- Ranges of peptides, how they lie to each other, and how many peptides of a set they hold.
 use Prim.Native.Nat.{ℕ, zero, suc, _+_, _-_}
-use mathlib.Core.Bool.{Bool, true, false, not, cond, _&&_, _||_}
+use mathlib.Core.Bool.{Bool, false, not, cond, _&&_, _||_}
 use mathlib.Core.List.{List, [], _∷_, map}
+use mathlib.Core.Logic.{_⊎_}
+use mathlib.Core.Path.{_≡_}
 use lib.Dec.{leb, ltb}
-use Rattle.reader.specs.Family.{Region, Family, peptidesUpTo}
+use Rattle.reader.specs.Family.{Region, Family, region, peptidesUpTo}
 
 -- The peptides low + 1 to high, with the bound z. How it lies to another range is judged on its key, from and to:
 -- of a region its leaf numbers, so that a leaf without a peptide is no special case.
@@ -17,6 +19,10 @@ pub record Range : Type 0 where
 unfoldable pub rangeOf : Family → Region → Range
 rangeOf F r =
     record { from = r .first; to = r .last; low = peptidesUpTo F (r .first - 1); high = peptidesUpTo F (r .last); z = r .z }
+
+-- the range of the k-th region, counted from 0
+abbrev pub rangeAt : Family → ℕ → Range
+rangeAt F k = rangeOf F (region F k)
 
 -- the ranges of a family's regions, in file order
 unfoldable pub rangesOf : Family → List Range
@@ -37,6 +43,11 @@ card (suc m) X = card m X + cond (X (suc m)) 1 0
 -- how many of the peptides of r are in the set
 unfoldable pub count : ℕ → Peptides → Range → ℕ
 count m X r = card m (λ p. has r p && X p)
+
+-- x is an element of the list
+abbrev pub In : {A : Type 0} → A → List A → Type 0
+In x [] = ⊥
+In x (y ∷ L) = (x ≡ y) ⊎ In x L
 
 -- some element passes the test
 unfoldable pub some : {A : Type 0} → (A → Bool) → List A → Bool

@@ -1,31 +1,18 @@
 -- What the private functions that judge a selection and walk along its rows promise each other.
 use Prim.Native.Nat.{ℕ, zero, suc, _+_, _-_, _≤_, _<_}
 use mathlib.Core.Bool.{Bool, _&&_}
-use mathlib.Core.List.{List, [], _∷_, _++_}
+use mathlib.Core.List.{List}
 use mathlib.Core.Logic.{_⊎_}
 use mathlib.Core.Path.{_≡_}
 use lib.ListN.{length, getD}
 use lib.Dec.{leb, ltb}
-use Rattle.reader.specs.Family.{Family, leaves, regionCount, region, peptidesUpTo, familyOf}
+use Rattle.reader.specs.Family.{Family, leaves, regionCount, region, peptidesUpTo}
 use Rattle.reader.specs.WellFormed.{WellFormed}
-use Rattle.reader.specs.Causes.{Cause, fileCauses}
-use Rattle.bounds.specs.Ranges.{Range, card, rangeOf, rangesOf}
+use Rattle.bounds.specs.Ranges.{Range, card, rangeAt, rangesOf}
 use Rattle.bounds.specs.Bound.{total, value}
-use Rattle.bounds.specs.Selections.{cause14, selected, boundOf}
+use Rattle.bounds.specs.Selections.{selected, boundOf}
 use Rattle.bounds.specs.declared.cursor.Cursor.{Cursor}
 use Rattle.bounds.specs.declared.cursor.Counted.{Counted}
-
--- the causes of a call with a selection and an output of so many places
-unfoldable pub causesWith : List ℕ → List ℕ → ℕ → List Cause
-causesWith file selection room =
-    fileCauses file
-    ++ (record { number = 14; holds = cause14 (familyOf file .peptides) selection }
-    ∷ record { number = 16; holds = ltb room (regionCount (familyOf file)) }
-    ∷ [])
-
--- the range of the k-th region, counted from 0
-unfoldable pub rangeAt : Family → ℕ → Range
-rangeAt F k = rangeOf F (region F k)
 
 -- the whole line, around every region
 unfoldable pub wholeLine : Family → Range
@@ -60,7 +47,7 @@ pub record OnLeaf (F : Family) (c : Cursor) : Type 0 where
   pub peptide : c .peptide .0 ≡ peptidesUpTo F (c .leaf .0)
 
 -- the cursor goes on at a leaf; the selected peptides on the way are counted
-pub record Passed (F : Family) (selection : List ℕ) (c : Cursor) (last : ℕ) (r : Counted) : Type 0 where
+pub record PassedTo (F : Family) (selection : List ℕ) (c : Cursor) (last : ℕ) (r : Counted) : Type 0 where
   pub region : r .at .region ≡ c .region
   pub leaf : r .at .leaf .0 ≡ last
   pub peptide : r .at .peptide .0 ≡ peptidesUpTo F last
@@ -84,7 +71,7 @@ pub record RowReady (F : Family) (selection totals : List ℕ) (c : Cursor) (las
   pub ends : last ≡ lastLeaf F (c .region)
 
 -- the regions `from` to `next` - 1 are those from `from` on that begin at the leaf `last` or before
-pub record Walked (F : Family) (from last next : ℕ) : Type 0 where
+pub record WalkedOver (F : Family) (from last next : ℕ) : Type 0 where
   pub forward : from ≤ next
   pub most : next ≤ regionCount F
   pub within : (k : ℕ) → from ≤ k → k < next → region F k .first ≤ last
@@ -102,7 +89,7 @@ pub record RegionWalked (F : Family) (selection old new : List ℕ) (c : Cursor)
   pub leaf : r .at .leaf .0 ≡ region F (c .region) .last
   pub peptide : r .at .peptide .0 ≡ peptidesUpTo F (r .at .leaf .0)
   pub later : c .region < r .at .region
-  pub walked : Walked F (suc (c .region)) (region F (c .region) .last) (r .at .region)
+  pub walked : WalkedOver F (suc (c .region)) (region F (c .region) .last) (r .at .region)
   pub stored : Stored F selection old new (c .region) (r .at .region)
 
 -- the row that begins at the cursor's region is walked: the inside total of its range, and the cursor after it
@@ -111,7 +98,7 @@ pub record RowWalked (F : Family) (selection old new : List ℕ) (c : Cursor) (r
   pub few : r .count + card (c .peptide .0) (selected selection) ≤ card (r .at .peptide .0) (selected selection)
   pub leaf : r .at .leaf .0 ≡ lastLeaf F (c .region)
   pub peptide : r .at .peptide .0 ≡ peptidesUpTo F (r .at .leaf .0)
-  pub walked : Walked F (c .region) (lastLeaf F (c .region)) (r .at .region)
+  pub walked : WalkedOver F (c .region) (lastLeaf F (c .region)) (r .at .region)
   pub stored : Stored F selection old new (c .region) (r .at .region)
 
 -- the whole line is walked: its inside total is the bound

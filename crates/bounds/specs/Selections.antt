@@ -6,7 +6,7 @@ use lib.ListN.{length, getD}
 use lib.Dec.{eqb, ltb}
 use Rattle.reader.specs.Lists.{someBelow}
 use Rattle.reader.specs.Family.{Family}
-use Rattle.bounds.specs.Ranges.{Range, Peptides, rangesOf}
+use Rattle.bounds.specs.Ranges.{Peptides, rangesOf}
 use Rattle.bounds.specs.Bound.{total, bound, takenBytes}
 
 -- the peptides whose byte is 1; the first byte is that of peptide 1

@@ -14,7 +14,7 @@ unfoldable pub takes : Family → ℕ → ℕ → ℕ → Bool
 takes F k total until = ltb until (region F k .first) && ltb (region F k .z) total
 
 -- a region's byte, and the last leaf of the latest region taken after it
-pub record Stepped (F : Family) (k total until : ℕ) (r : Step) : Type 0 where
+pub record TakeDecided (F : Family) (k total until : ℕ) (r : Step) : Type 0 where
   pub byte : r .byte ≡ cond (takes F k total until) 1 0
   pub latest : r .until .0 ≡ cond (takes F k total until) (region F k .last) until
 

@@ -48,7 +48,7 @@ unfoldable pub holdsLeaf : Family → ℕ → ℕ → Bool
 holdsLeaf F leaf k = leb (region F k .first) leaf && leb leaf (region F k .last)
 
 -- c is how many regions begin at the leaf or before it: in file order they are the first c
-pub record Begun (F : Family) (leaf c : ℕ) : Type 0 where
+pub record HowManyBegun (F : Family) (leaf c : ℕ) : Type 0 where
   pub most : c ≤ regionCount F
   pub begins : (i : ℕ) → i < c → region F i .first ≤ leaf
   pub later : (i : ℕ) → c ≤ i → i < regionCount F → leaf < region F i .first
@@ -69,7 +69,7 @@ pub record CountedOne (F : Family) (C : List ℕ) (leaf : ℕ) (D : List ℕ) : 
   pub counted : (k : ℕ) → k < regionCount F → getD D k 0 ≡ getD C k 0 + cond (holdsLeaf F leaf k) 1 0
 
 -- One step of the walk: the mark is 1 unless a region that holds the peptide is crowded, and the counts go up by it.
-pub record Stepped (F : Family) (C : List ℕ) (p : ℕ) (D : List ℕ) (mark : ℕ) : Type 0 where
+pub record MarkedNext (F : Family) (C : List ℕ) (p : ℕ) (D : List ℕ) (mark : ℕ) : Type 0 where
   pub same : length D ≡ length C
   pub marked : mark ≡ cond (crowded F C (leafOf F p)) 0 1
   pub counted : (k : ℕ) → k < regionCount F → getD D k 0 ≡ getD C k 0 + cond (holdsLeaf F (leafOf F p) k) mark 0

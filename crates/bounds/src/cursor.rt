@@ -1,14 +1,14 @@
 // A cursor that walks along the line, over whole leaves, and counts the selected peptides on its way.
 use crate::selection::selected_between;
-use reader::bytes::number_at;
 use reader::family::Leaf;
 use reader::family::Peptide;
 use reader::family::leaf_length;
+use reader::family::region_count;
 use reader::family::region_of;
 ghost use mathlib.Core.Path.{_≡_};
 ghost use Prim.Native.Nat.{_-_, _<_, _≤_};
 ghost use Rattle.reader.specs.Family.{familyOf, leaves, regionCount, region, peptidesUpTo};
-ghost use Rattle.bounds.specs.Rows.{beginsBy, Ready, OnLeaf, Passed};
+ghost use Rattle.bounds.specs.Rows.{beginsBy, Ready, OnLeaf, PassedTo};
 
 // Where a walk along the line stands: the next region, and the last leaf and the last peptide passed, 0 before the first.
 pub(crate) struct Cursor {
@@ -44,7 +44,7 @@ pub(crate) fn pass(file: &[u8], selection: &[u8], from: Cursor, last: Leaf) -> C
     requires { ⌜ Ready (familyOf (now file)) (now selection) ⌝ }
     requires { ⌜ OnLeaf (familyOf (now file)) from ⌝ }
     requires { ⌜ (from .leaf .0 ≤ last .0) × (last .0 ≤ leaves (familyOf (now file))) ⌝ }
-    ensures { λ r. ⌜ Passed (familyOf (now (file .entry))) (now (selection .entry)) from (last .0) r ⌝ }
+    ensures { λ r. ⌜ PassedTo (familyOf (now (file .entry))) (now (selection .entry)) from (last .0) r ⌝ }
 {
     let region = from.region;
     let leaf = from.leaf;
@@ -65,7 +65,7 @@ pub(crate) fn pass(file: &[u8], selection: &[u8], from: Cursor, last: Leaf) -> C
 pub(crate) fn begins_by(file: &[u8], k: u16, last: Leaf) -> bool
     ensures { λ r. ⌜ r ≡ beginsBy (familyOf (now (file .entry))) k (last .0) ⌝ }
 {
-    if k < number_at(file, 8) {
+    if k < region_count(file) {
         let r = region_of(file, k);
         let first = r.first.0;
         let end = last.0;
@@ -80,7 +80,7 @@ pub(crate) fn pass_to_region(file: &[u8], selection: &[u8], from: Cursor) -> Cou
     requires { ⌜ Ready (familyOf (now file)) (now selection) ⌝ }
     requires { ⌜ OnLeaf (familyOf (now file)) from ⌝ }
     requires { ⌜ (from .region < regionCount (familyOf (now file))) × (from .leaf .0 < region (familyOf (now file)) (from .region) .first) ⌝ }
-    ensures { λ r. ⌜ Passed (familyOf (now (file .entry))) (now (selection .entry)) from (region (familyOf (now (file .entry))) (from .region) .first - 1) r ⌝ }
+    ensures { λ r. ⌜ PassedTo (familyOf (now (file .entry))) (now (selection .entry)) from (region (familyOf (now (file .entry))) (from .region) .first - 1) r ⌝ }
 {
     let k = from.region;
     let r = region_of(file, k);

@@ -6,21 +6,15 @@ use crate::cursor::Cursor;
 use crate::cursor::begins_by;
 use crate::cursor::pass;
 use crate::cursor::pass_to_region;
-use reader::bytes::number_at;
+use reader::bytes::smaller;
 use reader::family::Leaf;
 use reader::family::Peptide;
+use reader::family::leaf_count;
 use reader::family::region_of;
-ghost use mathlib.Core.Path.{_≡_};
-ghost use Prim.Native.Nat.{_≤_, min};
+ghost use Prim.Native.Nat.{_≤_};
 ghost use lib.ListN.{length};
 ghost use Rattle.reader.specs.Family.{familyOf, regionCount};
 ghost use Rattle.bounds.specs.Rows.{Ready, RegionReady, RowReady, RegionWalked, RowWalked, LineWalked};
-
-fn smaller(a: u16, b: u16) -> u16
-    ensures { λ r. ⌜ r ≡ min a b ⌝ }
-{
-    if a <= b { a } else { b }
-}
 
 // The value of the region at the cursor: the smaller of its z and its inside total, which is stored.
 fn region_value(file: &[u8], selection: &[u8], totals: &mut [u16], from: Cursor) -> Counted
@@ -80,7 +74,7 @@ pub(crate) fn line_value(file: &[u8], selection: &[u8], totals: &mut [u16]) -> u
     requires { ⌜ regionCount (familyOf (now file)) ≤ length (now totals) ⌝ }
     ensures { λ r. ⌜ LineWalked (familyOf (now (file .entry))) (now (selection .entry)) (now (totals .entry)) (now (totals .exit)) r ⌝ }
 {
-    let leaves = number_at(file, 6);
+    let leaves = leaf_count(file);
     let start = Cursor {
         region: 0,
         leaf: Leaf(0),

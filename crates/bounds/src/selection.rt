@@ -9,7 +9,7 @@ ghost use lib.ListN.{length};
 ghost use Rattle.bounds.specs.Ranges.{card};
 ghost use Rattle.reader.specs.Causes.{firstCause};
 ghost use Rattle.bounds.specs.Selections.{selected, cause14};
-ghost use Rattle.bounds.specs.Rows.{causesWith};
+ghost use Rattle.bounds.specs.Calls.{causesWithRoom};
 
 // Not m bytes, or a byte over 1.
 pub(crate) fn bad_selection(selection: &[u8], m: u16) -> bool
@@ -54,7 +54,7 @@ pub(crate) fn selected_between(selection: &[u8], after: Peptide, upto: Peptide) 
 
 // The first cause of a call with a selection and an output of so many places, or 0.
 pub(crate) fn selection_cause(file: &[u8], selection: &[u8], room: usize) -> u16
-    ensures { λ r. ⌜ r ≡ firstCause (causesWith (now (file .entry)) (now (selection .entry)) room) ⌝ }
+    ensures { λ r. ⌜ r ≡ firstCause (causesWithRoom (now (file .entry)) (now (selection .entry)) room) ⌝ }
 {
     match check(file) {
         Checked::Family {

@@ -1,14 +1,14 @@
 // The taken regions, in one pass in file order: a region is inside a taken one exactly if it begins no later than the latest
 // taken one ends, and the outermost full region around a region is taken.
-use reader::bytes::number_at;
 use reader::family::Leaf;
+use reader::family::region_count;
 use reader::family::region_of;
 ghost use mathlib.Core.List.{_++_};
 ghost use mathlib.Core.Path.{_≡_};
 ghost use Prim.Native.Nat.{_≤_};
 ghost use lib.ListN.{length, drop};
 ghost use Rattle.reader.specs.Family.{familyOf, regionCount};
-ghost use Rattle.bounds.specs.Takes.{Stepped, takenAlong};
+ghost use Rattle.bounds.specs.Takes.{TakeDecided, takenAlong};
 
 // A region's byte, and the last leaf of the latest taken region.
 struct Step {
@@ -18,7 +18,7 @@ struct Step {
 
 // Takes the k-th region if its total is over its z and it begins after the latest taken region.
 fn take(file: &[u8], k: u16, total: u16, until: Leaf) -> Step
-    ensures { λ r. ⌜ Stepped (familyOf (now (file .entry))) k total (until .0) r ⌝ }
+    ensures { λ r. ⌜ TakeDecided (familyOf (now (file .entry))) k total (until .0) r ⌝ }
 {
     let r = region_of(file, k);
     let first = r.first.0;
@@ -42,7 +42,7 @@ pub(crate) fn write_taken(file: &[u8], totals: &[u16], taken: &mut [u8])
     requires { ⌜ (regionCount (familyOf (now file)) ≤ length (now totals)) × (regionCount (familyOf (now file)) ≤ length (now taken)) ⌝ }
     ensures { λ _. ⌜ now (taken .exit) ≡ takenAlong (familyOf (now (file .entry))) (now (totals .entry)) ++ drop (regionCount (familyOf (now (file .entry)))) (now (taken .entry)) ⌝ }
 {
-    let regions = number_at(file, 8);
+    let regions = region_count(file);
     let mut until = Leaf(0);
     let mut k = 0;
     while k < regions {

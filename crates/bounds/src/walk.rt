@@ -1,10 +1,10 @@
 // The greedy walk along a path: a peptide is marked unless a region that holds it already has z marked peptides.
 // In file order the regions that hold a leaf are the last one that does and those around it, so a step costs the way
 // to the leaf, a search among the first leaves and the depth of the nesting.
-use reader::bytes::number_at;
 use reader::family::Leaf;
 use reader::family::Peptide;
 use reader::family::leaf_of;
+use reader::family::region_count;
 use reader::family::region_of;
 ghost use mathlib.Core.Path.{_≡_};
 ghost use mathlib.Core.Bool.{cond};
@@ -15,16 +15,16 @@ ghost use lib.Dec.{leb};
 ghost use Rattle.reader.specs.Family.{Family, familyOf, regionCount};
 ghost use Rattle.reader.specs.WellFormed.{Ordered, Nested};
 ghost use Rattle.bounds.specs.Curves.{curveValues, curveMarks, cutOf};
-ghost use Rattle.bounds.specs.Walks.{Walkable, Begun, LastHolding, crowded, CountedOne, Stepped};
+ghost use Rattle.bounds.specs.Walks.{Walkable, HowManyBegun, LastHolding, crowded, CountedOne, MarkedNext};
 
 // How many regions begin at the leaf or before it.
 fn begun(file: &[u8], leaf: Leaf) -> u16
     requires { ⌜ Ordered (familyOf (now file)) ⌝ }
-    ensures { λ r. ⌜ Begun (familyOf (now (file .entry))) (leaf .0) r ⌝ }
+    ensures { λ r. ⌜ HowManyBegun (familyOf (now (file .entry))) (leaf .0) r ⌝ }
 {
     let place = leaf.0;
     let mut low = 0;
-    let mut high = number_at(file, 8);
+    let mut high = region_count(file);
     while low < high {
         let middle = low + (high - low) / 2;
         let region = region_of(file, middle);
@@ -94,7 +94,7 @@ fn mark_next(file: &[u8], parents: &[u16], counts: &mut [u16], peptide: Peptide)
     requires { ⌜ Nested (familyOf (now file)) (now parents) ⌝ }
     requires { ⌜ regionCount (familyOf (now file)) ≤ length (now counts) ⌝ }
     requires { ⌜ ((k : ℕ) → k < regionCount (familyOf (now file)) → getD (now counts) k 0 < 65535) ⌝ }
-    ensures { λ r. ⌜ Stepped (familyOf (now (file .entry))) (now (counts .entry)) (peptide .0) (now (counts .exit)) r ⌝ }
+    ensures { λ r. ⌜ MarkedNext (familyOf (now (file .entry))) (now (counts .entry)) (peptide .0) (now (counts .exit)) r ⌝ }
 {
     let inner = innermost(file, parents, leaf_of(file, peptide));
     if is_crowded(file, parents, counts, inner) {

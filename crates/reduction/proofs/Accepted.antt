@@ -7,8 +7,8 @@ use native.Mathlib.Omega.{arith}
 use Rattle.reader.specs.Family.{Family, leaves, regionCount, region}
 use Rattle.reader.specs.Nesting.{regionsAround}
 use Rattle.reader.specs.WellFormed.{WellFormed}
-use Rattle.bounds.specs.Ranges.{Range, rangeOf, rangesOf, inside}
-use Rattle.bounds.proofs.Members.{In, bit, bit-mono, sum-mono}
+use Rattle.bounds.specs.Ranges.{Range, rangeOf, rangesOf, inside, In}
+use Rattle.bounds.proofs.Members.{bit, bit-mono, sum-mono}
 use Rattle.bounds.proofs.Nesting.{inside-facts, inside-holds}
 use Rattle.bounds.proofs.Family.{family-laminar, range-in}
 use Rattle.reduction.specs.Reduction.{reduced, regionOf, writtenFamily, reducedFamily}

@@ -6,8 +6,8 @@ use mathlib.Core.Logic.{_⊎_, inl, inr, ⊎-elim}
 use mathlib.Core.Path.{_≡_, refl}
 use native.Mathlib.Omega.{arith}
 use borrow.Author.Tests.{not-true}
-use Rattle.bounds.specs.Ranges.{Range, Peptides, card, inside}
-use Rattle.bounds.proofs.Members.{In, test, clash, le-or-lt, and-l, and-r}
+use Rattle.bounds.specs.Ranges.{Range, Peptides, card, inside, In}
+use Rattle.bounds.proofs.Members.{test, clash, le-or-lt, and-l, and-r}
 use Rattle.bounds.proofs.Counting.{Subset, adding, adding-old, adding-either, card-adding, card-more}
 use Rattle.bounds.proofs.Nesting.{Inside, inside-facts, inside-holds}
 use Rattle.reduction.proofs.Unless.{le-unless}

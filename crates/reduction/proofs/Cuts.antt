@@ -6,8 +6,8 @@ use mathlib.Core.Logic.{_⊎_, inl, inr, ⊎-elim}
 use mathlib.Core.Path.{_≡_}
 use native.Mathlib.Nat.{eq-or-lt-of-le}
 use native.Mathlib.Omega.{arith}
-use Rattle.bounds.specs.Ranges.{Range, has}
-use Rattle.bounds.proofs.Members.{In, clash, refuted, le-or-lt}
+use Rattle.bounds.specs.Ranges.{Range, has, In}
+use Rattle.bounds.proofs.Members.{clash, refuted, le-or-lt}
 use Rattle.bounds.proofs.Nesting.{Has, has-facts, has-holds}
 use Rattle.bounds.proofs.Laminar.{Laminar}
 use Rattle.reduction.specs.Reduction.{live, reduced, endsLeaf}

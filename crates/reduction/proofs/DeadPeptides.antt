@@ -12,12 +12,12 @@ use lib.Dec.{ltb}
 use borrow.Author.Tests.{ltb-true, ltb-false}
 use Rattle.reader.specs.Family.{Family, regionCount, region}
 use Rattle.reader.specs.WellFormed.{WellFormed}
-use Rattle.bounds.specs.Ranges.{Range, rangeOf, rangesOf}
-use Rattle.bounds.proofs.Members.{In, place, test, le-or-lt}
+use Rattle.bounds.specs.Ranges.{Range, rangeOf, rangesOf, In, rangeAt}
+use Rattle.bounds.proofs.Members.{place, test, le-or-lt}
 use Rattle.bounds.proofs.Nesting.{has-facts, has-holds}
 use Rattle.bounds.proofs.Family.{ranges-length, range-in, noRange, range-at, upTo-mono}
 use Rattle.reduction.specs.Reduction.{live}
-use Rattle.reduction.specs.Passes.{range, Marked, LiveUpTo, Reached}
+use Rattle.reduction.specs.Passes.{Marked, LiveUpTo, Reached}
 use Rattle.reduction.proofs.Live.{dead-facts, dead-holds}
 use Rattle.reduction.proofs.OpenRegions.{below-next, upTo-small}
 
@@ -49,28 +49,28 @@ marked-less L M from to until n h k = record { old = k .old; new = λ p a l. k .
 pub record Numbered (F : Family) (r : Range) : Type 0 where
   pub number : ℕ
   pub small : number < regionCount F
-  pub is : r ≡ range F number
+  pub is : r ≡ rangeAt F number
 
 pub numbered : (F : Family) (r : Range) → In r (rangesOf F) → Numbered F r
 numbered F r i =
     let p = place (noRange F) (rangesOf F) r i in
     record { number = p .at; small = omega (arith, ranges-length F, p .inRange); is = p .there ∙ range-at F (p .at) }
 
-pub range-z : (F : Family) (k : ℕ) → range F k .z ≡ region F k .z
+pub range-z : (F : Family) (k : ℕ) → rangeAt F k .z ≡ region F k .z
 unfolding rangeOf
 range-z F k = refl
 
 module _ (F : Family) (w : WellFormed F) where
   -- regions begin in rising order, with their peptides too
-  pub low-rises : (i k : ℕ) → i < k → k < regionCount F → range F i .low ≤ range F k .low
+  pub low-rises : (i k : ℕ) → i < k → k < regionCount F → rangeAt F i .low ≤ rangeAt F k .low
   unfolding rangeOf
   low-rises i k h l = upTo-mono F (region F i .first - 1) (region F k .first - 1) (omega (arith, w .ordered .rising i k h l))
 
-  pub low-high : (k : ℕ) → k < regionCount F → range F k .low ≤ range F k .high
+  pub low-high : (k : ℕ) → k < regionCount F → rangeAt F k .low ≤ rangeAt F k .high
   unfolding rangeOf
   low-high k l = upTo-mono F (region F k .first - 1) (region F k .last) (omega (arith, w .ordered .first-last k l))
 
-  pub high-small : (k : ℕ) → k < regionCount F → range F k .high ≤ F .peptides
+  pub high-small : (k : ℕ) → k < regionCount F → rangeAt F k .high ≤ F .peptides
   unfolding rangeOf
   high-small k l = upTo-small F w (region F k .last) (w .ordered .last-leaf k l)
 
@@ -78,16 +78,16 @@ module _ (F : Family) (w : WellFormed F) where
 pub record DeadTo (F : Family) (k u : ℕ) : Type 0 where
   pub number : ℕ
   pub small : number < k
-  pub zero : range F number .z ≡ 0
-  pub high : u ≡ range F number .high
+  pub zero : rangeAt F number .z ≡ 0
+  pub high : u ≡ rangeAt F number .high
 
 -- Of the first k regions, which begin after `settled` peptides or fewer, those with z = 0 reach up to peptide u.
 -- The other regions begin after no fewer, and the bytes of the settled peptides are right.
 pub record Swept (F : Family) (k settled u : ℕ) (M : List ℕ) : Type 0 where
   pub few : settled ≤ F .peptides
-  pub before : (i : ℕ) → i < k → range F i .low ≤ settled
-  pub others : (i : ℕ) → k ≤ i → i < regionCount F → settled ≤ range F i .low
-  pub most : (i : ℕ) → i < k → range F i .z ≡ 0 → range F i .high ≤ u
+  pub before : (i : ℕ) → i < k → rangeAt F i .low ≤ settled
+  pub others : (i : ℕ) → k ≤ i → i < regionCount F → settled ≤ rangeAt F i .low
+  pub most : (i : ℕ) → i < k → rangeAt F i .z ≡ 0 → rangeAt F i .high ≤ u
   pub least : 1 ≤ u → DeadTo F k u
   pub right : LiveUpTo F settled M
 
@@ -105,13 +105,13 @@ none-swept F M =
 module _ (F : Family) (w : WellFormed F) where
   -- a peptide that is not settled, before the ones of the other regions, is dead exactly if it is reached
   pub dead-reached :
-      (k settled u p : ℕ) (M : List ℕ) → k ≤ regionCount F → Swept F k settled u M → settled ≤ p → ((i : ℕ) → k ≤ i → i < regionCount F → p < range F i .low)
+      (k settled u p : ℕ) (M : List ℕ) → k ≤ regionCount F → Swept F k settled u M → settled ≤ p → ((i : ℕ) → k ≤ i → i < regionCount F → p < rangeAt F i .low)
       → _≡_ {A = ℕ} (cond (ltb p u) 0 1) (cond (live (rangesOf F) (p + 1)) 1 0)
   dead-reached k settled u p M few s from to =
       ⊎-elim
       (λ t.
       let d = s .least (omega (arith, ltb-true p u t)) in
-      rw (t, dead-holds {R = rangesOf F} {p = p + 1} (record { by = range F (d .number); member = range-in F (d .number) (omega (arith, d .small)); zero = d .zero; holds = has-holds (record { above = omega (arith, s .before (d .number) (d .small)); upto = omega (arith, ltb-true p u t, d .high) }) })))
+      rw (t, dead-holds {R = rangesOf F} {p = p + 1} (record { by = rangeAt F (d .number); member = range-in F (d .number) (omega (arith, d .small)); zero = d .zero; holds = has-holds (record { above = omega (arith, s .before (d .number) (d .small)); upto = omega (arith, ltb-true p u t, d .high) }) })))
       (λ f. rw f (sym (⊎-elim (λ l. rw l) (λ l. absurd (unreached f l)) (test (live (rangesOf F) (p + 1))))))
       (test (ltb p u))
     where
@@ -119,8 +119,8 @@ module _ (F : Family) (w : WellFormed F) where
       unreached f l =
           let d = dead-facts (rangesOf F) (p + 1) l in
           let n = numbered F (d .by) (d .member) in
-          let h = has-facts (range F (n .number)) (p + 1) (rw (n .is) at (d .holds)) in
-          let z : range F (n .number) .z ≡ 0 = rw (n .is) at (d .zero) in
+          let h = has-facts (rangeAt F (n .number)) (p + 1) (rw (n .is) at (d .holds)) in
+          let z : rangeAt F (n .number) .z ≡ 0 = rw (n .is) at (d .zero) in
           ⊎-elim
           (λ a. omega (arith, to (n .number) a (n .small), h .above))
           (λ b. omega (arith, s .most (n .number) b z, h .upto, ltb-false p u f))
@@ -128,7 +128,7 @@ module _ (F : Family) (w : WellFormed F) where
 
   -- the bytes up to a peptide before those of the other regions
   settle :
-      (k settled u to : ℕ) (M N : List ℕ) → k ≤ regionCount F → Swept F k settled u M → ((i : ℕ) → k ≤ i → i < regionCount F → to ≤ range F i .low)
+      (k settled u to : ℕ) (M N : List ℕ) → k ≤ regionCount F → Swept F k settled u M → ((i : ℕ) → k ≤ i → i < regionCount F → to ≤ rangeAt F i .low)
       → Marked M N settled to u → LiveUpTo F to N
   settle k settled u to M N few s next marked p l =
       ⊎-elim
@@ -138,7 +138,7 @@ module _ (F : Family) (w : WellFormed F) where
 
   -- the k-th region
   pub swept-more :
-      (k settled u low z high v : ℕ) (M N : List ℕ) → k < regionCount F → low ≡ range F k .low → high ≡ range F k .high → z ≡ region F k .z
+      (k settled u low z high v : ℕ) (M N : List ℕ) → k < regionCount F → low ≡ rangeAt F k .low → high ≡ rangeAt F k .high → z ≡ region F k .z
       → Reached z high u v
       → Swept F k settled u M → Marked M N settled low u → Swept F (k + 1) low v N
   swept-more k settled u low z high v M N h el eh ez ev s marked =
@@ -151,7 +151,7 @@ module _ (F : Family) (w : WellFormed F) where
         right = settle k settled u low M N (omega arith) s (λ i a j. ⊎-elim (λ e. rw (← e) (omega arith)) (λ b. omega (arith, low-rises F w k i b j)) (eq-or-lt-of-le a)) marked;
       }
     where
-      z-k : z ≡ range F k .z
+      z-k : z ≡ rangeAt F k .z
       z-k = ez ∙ sym (range-z F k)
 
       earlier : DeadTo F k u → DeadTo F (k + 1) u

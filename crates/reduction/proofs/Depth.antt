@@ -6,8 +6,8 @@ use mathlib.Core.List.{List}
 use mathlib.Core.Logic.{⊎-elim}
 use mathlib.Core.Path.{_≡_}
 use native.Mathlib.Omega.{arith}
-use Rattle.bounds.specs.Ranges.{Range, has, those, inside}
-use Rattle.bounds.proofs.Members.{In, those-in, clash}
+use Rattle.bounds.specs.Ranges.{Range, has, those, inside, In}
+use Rattle.bounds.proofs.Members.{those-in, clash}
 use Rattle.bounds.proofs.Nesting.{has-facts, has-holds, Inside, inside-facts, inside-holds}
 use Rattle.bounds.proofs.Laminar.{Laminar, Fit, isInside, isAround, isBefore, isAfter, fit}
 use Rattle.reduction.specs.Reduction.{live, reduced}

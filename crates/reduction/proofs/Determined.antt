@@ -8,8 +8,8 @@ use native.Mathlib.Omega.{arith}
 use lib.Dec.{eqb}
 use borrow.Author.Tests.{eq-eqb, ne-eqb}
 use Rattle.reader.proofs.Bools.{passes}
-use Rattle.bounds.specs.Ranges.{Range, Peptides, has, card, count}
-use Rattle.bounds.proofs.Members.{In, clash, and-l, and-r, and-both, refuted, le-or-lt}
+use Rattle.bounds.specs.Ranges.{Range, Peptides, has, card, count, In}
+use Rattle.bounds.proofs.Members.{clash, and-l, and-r, and-both, refuted, le-or-lt}
 use Rattle.bounds.proofs.Counting.{Subset, none, adding, adding-it, adding-old, adding-other, adding-either, card-none, card-less, card-but-one, count-none, count-mono, count-adding-most, count-adding-other}
 use Rattle.bounds.proofs.Nesting.{Has, has-facts, Inside, inner}
 use Rattle.bounds.proofs.Laminar.{Fit, isInside, isAround, isBefore, isAfter, fit}

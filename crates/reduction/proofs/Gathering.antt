@@ -14,9 +14,9 @@ use Rattle.reader.specs.Family.{Family, regionCount, familyOf}
 use Rattle.reader.specs.WellFormed.{WellFormed}
 use Rattle.reader.proofs.Bools.{not-passes}
 use Rattle.reader.proofs.Below.{some-at, found}
-use Rattle.bounds.specs.Ranges.{Range, Peptides, rangesOf, those}
+use Rattle.bounds.specs.Ranges.{Range, Peptides, rangesOf, those, In}
 use Rattle.bounds.specs.Selections.{selected}
-use Rattle.bounds.proofs.Members.{In, test, clash, refuted, and-l, and-r, and-both, or-l, or-r, or-either, both-ways, in-those, those-in, those-same, le-or-lt}
+use Rattle.bounds.proofs.Members.{test, clash, refuted, and-l, and-r, and-both, or-l, or-r, or-either, both-ways, in-those, those-in, those-same, le-or-lt}
 use Rattle.bounds.proofs.Family.{ranges-length}
 use Rattle.reduction.specs.Reduction.{piece, live}
 use Rattle.reduction.specs.Steps.{Begins, liveBytes, reducedRanges, Listed}

@@ -8,8 +8,8 @@ use native.Mathlib.Omega.{arith}
 use native.Mathlib.Nat.{eq-or-lt-of-le}
 use lib.Dec.{leb}
 use borrow.Author.Tests.{leb-true, le-leb}
-use Rattle.bounds.specs.Ranges.{Range, those}
-use Rattle.bounds.proofs.Members.{In, those-in, test}
+use Rattle.bounds.specs.Ranges.{Range, those, In}
+use Rattle.bounds.proofs.Members.{those-in, test}
 use Rattle.reduction.specs.Reduction.{rising, falling, grid}
 
 -- Members.

@@ -2,9 +2,8 @@
 use Prim.Native.Nat.{ℕ, _≤_}
 use mathlib.Core.List.{List}
 use mathlib.Core.Logic.{⊎-elim}
-use Rattle.bounds.specs.Ranges.{Range, Peptides, count}
+use Rattle.bounds.specs.Ranges.{Range, Peptides, count, In}
 use Rattle.bounds.specs.Bound.{total}
-use Rattle.bounds.proofs.Members.{In}
 use Rattle.bounds.proofs.Counting.{Subset}
 use Rattle.bounds.proofs.Nesting.{Inside, inner, inner-facts, inner-holds}
 use Rattle.bounds.proofs.Laminar.{Laminar, member-hosts}

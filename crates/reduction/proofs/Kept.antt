@@ -6,9 +6,9 @@ use mathlib.Core.Path.{_≡_}
 use native.Mathlib.Omega.{arith}
 use lib.Dec.{leb, ltb}
 use borrow.Author.Tests.{ltb-true, lt-ltb, leb-true, leb-false}
-use Rattle.bounds.specs.Ranges.{Range, Peptides, has, inside}
+use Rattle.bounds.specs.Ranges.{Range, Peptides, has, inside, In}
 use Rattle.bounds.specs.Bound.{total}
-use Rattle.bounds.proofs.Members.{In, and-l, and-r, and-both, refuted, nowhere-facts, nowhere-holds}
+use Rattle.bounds.proofs.Members.{and-l, and-r, and-both, refuted, nowhere-facts, nowhere-holds}
 use Rattle.bounds.proofs.Nesting.{has-facts, has-holds, Inside, inside-facts, inside-holds}
 use Rattle.bounds.proofs.Laminar.{Laminar}
 use Rattle.reduction.specs.Reduction.{room, isKept}

@@ -4,8 +4,7 @@ use mathlib.Core.List.{List, [], _∷_, map}
 use mathlib.Core.Logic.{inl, inr}
 use mathlib.Core.Path.{refl}
 use native.Mathlib.Omega.{arith}
-use Rattle.bounds.specs.Ranges.{Range, card, rangeOf}
-use Rattle.bounds.proofs.Members.{In}
+use Rattle.bounds.specs.Ranges.{Range, card, rangeOf, In}
 use Rattle.bounds.proofs.Nesting.{Inside}
 use Rattle.reduction.specs.Reduction.{endsLeaf, regionOf}
 use Rattle.reduction.proofs.Unless.{le-unless, lt-unless}

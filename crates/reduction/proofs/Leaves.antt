@@ -9,8 +9,8 @@ use native.Mathlib.Nat.{eq-or-lt-of-le, eq-zero-or-pos}
 use lib.ListN.{length, take, length-append}
 use lib.Seq.{take-all, take-append-le}
 use Rattle.reader.specs.Lists.{sum}
-use Rattle.bounds.specs.Ranges.{Peptides, card}
-use Rattle.bounds.proofs.Members.{test, In}
+use Rattle.bounds.specs.Ranges.{Peptides, card, In}
+use Rattle.bounds.proofs.Members.{test}
 use Rattle.reduction.specs.Reduction.{rising, lastOf, leafLengths}
 use Rattle.reduction.proofs.Counts.{card-up}
 use Rattle.reduction.proofs.FirstLast.{lastOf-small, lastOf-is}

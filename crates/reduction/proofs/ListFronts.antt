@@ -16,12 +16,12 @@ use Rattle.reader.specs.Nesting.{parent, parents}
 use Rattle.reader.specs.WellFormed.{WellFormed, IsParent}
 use Rattle.reader.proofs.Lists.{length-tabulate, getD-tabulate}
 use Rattle.reader.proofs.Climbing.{parent-is}
-use Rattle.bounds.specs.Ranges.{Range, rangeOf, rangesOf}
+use Rattle.bounds.specs.Ranges.{Range, rangeOf, rangesOf, rangeAt}
 use Rattle.bounds.proofs.Members.{test, le-or-lt}
 use Rattle.bounds.proofs.Family.{ranges-length, range-at}
 use Rattle.reduction.specs.Reduction.{live}
 use Rattle.reduction.specs.Steps.{Begins, liveBytes, firstLive, lastLive, firstsLive, lastsLive}
-use Rattle.reduction.specs.Passes.{range, Known, LiveUpTo, FirstsUpTo, LastsUpTo}
+use Rattle.reduction.specs.Passes.{Known, LiveUpTo, FirstsUpTo, LastsUpTo}
 
 pub begins-with : (new whole : List ℕ) → length new ≤ length whole → ((i : ℕ) → i < length new → getD whole i 0 ≡ getD new i 0) → Begins new whole
 begins-with new whole room h =
@@ -39,7 +39,7 @@ begins-room new whole b = rw (b .1, length-append new (b .0)) (omega arith)
 
 -- What is written for every region, in file order.
 
-map-at : (F : Family) (f : Range → ℕ) (k : ℕ) → k < regionCount F → getD (map f (rangesOf F)) k 0 ≡ f (range F k)
+map-at : (F : Family) (f : Range → ℕ) (k : ℕ) → k < regionCount F → getD (map f (rangesOf F)) k 0 ≡ f (rangeAt F k)
 map-at F f k l =
     let d : Range = rangeOf F (record { first = 0; last = 0; z = 0 }) in
     default-free (map f (rangesOf F)) k 0 (f d) (omega (arith, length-map (rangesOf F) f, ranges-length F))
@@ -51,7 +51,7 @@ map-at F f k l =
     default-free (x ∷ L) zero a b h = refl
     default-free (x ∷ L) (suc k) a b h = default-free L k a b (omega arith)
 
-map-begins : (F : Family) (f : Range → ℕ) (A : List ℕ) → regionCount F ≤ length A → ((k : ℕ) → k < regionCount F → getD A k 0 ≡ f (range F k)) → Begins (map f (rangesOf F)) A
+map-begins : (F : Family) (f : Range → ℕ) (A : List ℕ) → regionCount F ≤ length A → ((k : ℕ) → k < regionCount F → getD A k 0 ≡ f (rangeAt F k)) → Begins (map f (rangesOf F)) A
 map-begins F f A room h =
     let n = length-map (rangesOf F) f in
     let m = ranges-length F in

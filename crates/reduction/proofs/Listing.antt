@@ -12,10 +12,10 @@ use borrow.Author.Tests.{ne-eqb, le-ltb, eqb-true, eq-eqb}
 use Rattle.reader.specs.Causes.{firstCause}
 use Rattle.reader.proofs.Below.{none-below}
 use Rattle.reader.proofs.Bools.{or-neither}
-use Rattle.bounds.specs.Ranges.{Peptides}
+use Rattle.bounds.specs.Ranges.{Peptides, In}
 use Rattle.bounds.specs.Curves.{among, cause11, cause12, repeated, cause13}
 use Rattle.bounds.specs.Calls.{pathCauses, IsPath}
-use Rattle.bounds.proofs.Members.{In, in-at, some-in, some-found, clash}
+use Rattle.bounds.proofs.Members.{in-at, some-in, some-found, clash}
 
 -- from the last to the first
 pub listing : ℕ → Peptides → List ℕ

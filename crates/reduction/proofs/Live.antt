@@ -9,8 +9,8 @@ use native.Mathlib.Omega.{arith}
 use lib.Dec.{eqb}
 use borrow.Author.Tests.{eqb-true, eq-eqb, not-false}
 use Rattle.reader.proofs.Bools.{passes}
-use Rattle.bounds.specs.Ranges.{Range, Peptides, has, count}
-use Rattle.bounds.proofs.Members.{In, some-in, some-found, test, clash, and-l, and-r, and-both, both-ways}
+use Rattle.bounds.specs.Ranges.{Range, Peptides, has, count, In}
+use Rattle.bounds.proofs.Members.{some-in, some-found, test, clash, and-l, and-r, and-both, both-ways}
 use Rattle.bounds.proofs.Counting.{Subset, SameSet, none, adding, adding-it, count-none, count-adding-most, count-adding-other}
 use Rattle.bounds.proofs.Greedy.{Respects}
 use Rattle.reduction.specs.Reduction.{dead, live}

@@ -10,9 +10,9 @@ use lib.ListN.{length, getD, set}
 use lib.Seq.{getD-set-same, getD-set-other}
 use Rattle.reader.specs.Family.{Family, regionCount, region}
 use Rattle.reader.specs.WellFormed.{WellFormed}
-use Rattle.bounds.specs.Ranges.{Range, rangeOf, rangesOf, has}
+use Rattle.bounds.specs.Ranges.{Range, rangeOf, rangesOf, has, In, rangeAt}
 use Rattle.bounds.specs.Bound.{total}
-use Rattle.bounds.proofs.Members.{In, clash, le-or-lt}
+use Rattle.bounds.proofs.Members.{clash, le-or-lt}
 use Rattle.bounds.proofs.Nesting.{Inside, has-facts, has-holds}
 use Rattle.bounds.proofs.Laminar.{Laminar}
 use Rattle.bounds.proofs.Family.{range-in, family-laminar}
@@ -24,7 +24,7 @@ use Rattle.reduction.proofs.Stretches.{StretchOf, Source, stretches-fac
 use Rattle.reduction.proofs.Room.{room-is}
 use Rattle.reduction.proofs.Reduced.{Written, run, kept, reduced-facts, reduced-holds}
 use Rattle.reduction.proofs.Regions.{region-place}
-use Rattle.reduction.proofs.StretchPlaces.{rangeAt, stretch-of, stretch-at, inside-around, outward-wider, stretch-order, share}
+use Rattle.reduction.proofs.StretchPlaces.{stretch-of, stretch-at, inside-around, outward-wider, stretch-order, share}
 use Rattle.reduction.proofs.Weighing.{decide-same}
 
 -- From the weights of a region.

@@ -14,13 +14,13 @@ use lib.Dec.{eqb, leb, ltb}
 use borrow.Author.Tests.{eqb-true, eqb-false, leb-true, leb-false, ltb-true, ltb-false}
 use Rattle.reader.specs.Family.{Family, regionCount, region}
 use Rattle.reader.specs.WellFormed.{WellFormed}
-use Rattle.bounds.specs.Ranges.{Range, Peptides, rangesOf}
+use Rattle.bounds.specs.Ranges.{Range, Peptides, rangesOf, rangeAt}
 use Rattle.bounds.specs.Selections.{selected}
 use Rattle.bounds.proofs.Members.{test, clash}
 use Rattle.bounds.proofs.Nesting.{has-facts, has-holds}
 use Rattle.reduction.specs.Reduction.{live, livePeptides, firstOf, lastOf}
 use Rattle.reduction.specs.Steps.{firstLive, lastLive}
-use Rattle.reduction.specs.Passes.{range, LiveUpTo, Next, Nexts, Lasts}
+use Rattle.reduction.specs.Passes.{LiveUpTo, Next, Nexts, Lasts}
 use Rattle.reduction.proofs.FirstLast.{firstOf-small, firstOf-member, firstOf-is, lastOf-small, lastOf-member, lastOf-atLeast, lastOf-is}
 use Rattle.reduction.proofs.Stretches.{live-in, in-live}
 use Rattle.reduction.proofs.DeadPeptides.{range-z, high-small}
@@ -218,19 +218,19 @@ module _ (m : ℕ) (R : List Range) (r : Range) where
       most : (p : ℕ) → 1 ≤ p → livePeptides R r p ≡ true → p ≤ b
       most p l e = omega (arith, lastOf-atLeast (r .high) (live R) p l (has-facts r p (live-in m R r p e .0) .upto) (live-in m R r p e .1))
 
-module _ (F : Family) (k z low high : ℕ) (ez : z ≡ region F k .z) (el : low ≡ range F k .low) (eh : high ≡ range F k .high) where
+module _ (F : Family) (k z low high : ℕ) (ez : z ≡ region F k .z) (el : low ≡ rangeAt F k .low) (eh : high ≡ rangeAt F k .high) where
   pub first-found :
       (a v : ℕ) → Next (F .peptides) (live (rangesOf F)) (low + 1) a → v ≡ cond (eqb z 0) 0 (cond (leb a high) a 0)
-      → v ≡ firstLive F (range F k)
+      → v ≡ firstLive F (rangeAt F k)
   unfolding firstLive
   first-found a v n e =
       e
-      ∙ rw (ez ∙ sym (range-z F k), eh) (ap (λ (x : ℕ). cond (eqb (range F k .z) 0) 0 x) (first-from (F .peptides) (rangesOf F) (range F k) a (rw el at n)))
+      ∙ rw (ez ∙ sym (range-z F k), eh) (ap (λ (x : ℕ). cond (eqb (rangeAt F k .z) 0) 0 x) (first-from (F .peptides) (rangesOf F) (rangeAt F k) a (rw el at n)))
 
   pub last-found :
       WellFormed F → k < regionCount F → (b v : ℕ) → b ≡ lastOf high (live (rangesOf F)) → v ≡ cond (eqb z 0) 0 (cond (ltb low b) b 0)
-      → v ≡ lastLive F (range F k)
+      → v ≡ lastLive F (rangeAt F k)
   unfolding lastLive
   last-found w l b v is e =
       e
-      ∙ rw (ez ∙ sym (range-z F k), el) (ap (λ (x : ℕ). cond (eqb (range F k .z) 0) 0 x) (last-to (F .peptides) (rangesOf F) (range F k) b (high-small F w k l) (rw eh at is)))
+      ∙ rw (ez ∙ sym (range-z F k), el) (ap (λ (x : ℕ). cond (eqb (rangeAt F k .z) 0) 0 x) (last-to (F .peptides) (rangesOf F) (rangeAt F k) b (high-small F w k l) (rw eh at is)))

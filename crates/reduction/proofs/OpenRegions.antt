@@ -15,10 +15,10 @@ use Rattle.reader.specs.Family.{Family, leaves, regionCount, region, leafLength
 use Rattle.reader.specs.WellFormed.{WellFormed, IsParent}
 use Rattle.reader.proofs.Parsed.{length-leaf}
 use Rattle.reader.proofs.Walk.{up-to-next, up-to-end}
-use Rattle.bounds.specs.Ranges.{rangeOf}
+use Rattle.bounds.specs.Ranges.{rangeOf, rangeAt}
 use Rattle.bounds.proofs.Members.{test, le-or-lt}
 use Rattle.bounds.proofs.Family.{upTo-mono}
-use Rattle.reduction.specs.Passes.{range, Lowered, Begun, Open, Ends}
+use Rattle.reduction.specs.Passes.{Lowered, Begun, Open, Ends}
 
 -- what is below k + 1 is k or below k
 pub below-next : {j k : ℕ} → j < k + 1 → (j ≡ k) ⊎ (j < k)
@@ -71,7 +71,7 @@ module _ (F : Family) (w : WellFormed F) where
       record {
         few = omega arith;
         before = λ i l. ⊎-elim (λ e. rw e (omega arith)) (λ d. b .before i d) (below-next l);
-        low = more-stored L k v (λ i. range F i .low) room (b .low) (sums ∙ ap (peptidesUpTo F) (omega arith));
+        low = more-stored L k v (λ i. rangeAt F i .low) room (b .low) (sums ∙ ap (peptidesUpTo F) (omega arith));
       }
 
   -- the k-th region, if there is one, does not
@@ -156,7 +156,7 @@ module _ (F : Family) (w : WellFormed F) where
     where
       each :
           (i : ℕ) → i < regionCount F → region F i .first ≤ j
-          → (getD (set H (c - 1) v) i 0 ≡ range F i .high) ⊎ ((i < d) × (region F (d - 1) .last ≤ region F i .last))
+          → (getD (set H (c - 1) v) i 0 ≡ rangeAt F i .high) ⊎ ((i < d) × (region F (d - 1) .last ≤ region F i .last))
       each i l h =
           ⊎-elim
           (λ t. let e = eqb-true i (c - 1) t in inl (rw e (getD-set-same H (c - 1) v 0 room ∙ sums ∙ ap (peptidesUpTo F) (sym last))))

@@ -7,8 +7,8 @@ use mathlib.Core.Logic.{inl, inr}
 use mathlib.Core.Path.{_≡_, refl, ap}
 use native.Mathlib.Omega.{arith}
 use lib.ListN.{length}
-use Rattle.bounds.specs.Ranges.{Range, some, those, sumOver}
-use Rattle.bounds.proofs.Members.{In, Found, some-found, or-l, or-r, refuted, bit, bit-mono, sum-less, sum-mono}
+use Rattle.bounds.specs.Ranges.{Range, some, those, sumOver, In}
+use Rattle.bounds.proofs.Members.{Found, some-found, or-l, or-r, refuted, bit, bit-mono, sum-less, sum-mono}
 use Rattle.reduction.proofs.Grid.{Before, FileOrder}
 
 -- how many elements pass a test

@@ -4,8 +4,7 @@ use mathlib.Core.List.{List, [], _∷_}
 use mathlib.Core.Logic.{inl, inr}
 use mathlib.Core.Path.{_≡_, refl}
 use native.Mathlib.Omega.{arith}
-use Rattle.bounds.specs.Ranges.{Range}
-use Rattle.bounds.proofs.Members.{In}
+use Rattle.bounds.specs.Ranges.{Range, In}
 use Rattle.bounds.proofs.Laminar.{Fit, isAround, isBefore, Fits, Laminar}
 use Rattle.reduction.proofs.Grid.{Before, FileOrder}
 

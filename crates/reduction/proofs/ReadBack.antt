@@ -9,8 +9,8 @@ use native.Mathlib.Nat.{eq-zero-or-pos}
 use lib.Dec.{eqb}
 use borrow.Author.Tests.{eqb-true, eq-eqb}
 use Rattle.reader.specs.Family.{peptidesUpTo}
-use Rattle.bounds.specs.Ranges.{Range, Peptides, card, count, rangeOf, rangesOf}
-use Rattle.bounds.proofs.Members.{In, some-in, some-found, or-l, or-r, or-either}
+use Rattle.bounds.specs.Ranges.{Range, Peptides, card, count, rangeOf, rangesOf, In}
+use Rattle.bounds.proofs.Members.{some-in, some-found, or-l, or-r, or-either}
 use Rattle.bounds.proofs.Nesting.{has-facts, has-holds}
 use Rattle.bounds.proofs.Greedy.{Respects}
 use Rattle.reduction.specs.Reduction.{endsLeaf, regionOf, writtenFamily}

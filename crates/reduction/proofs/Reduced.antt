@@ -6,8 +6,8 @@ use mathlib.Core.Logic.{inl, inr}
 use mathlib.Core.Path.{_≡_, refl, sym, _∙_, ap}
 use native.Mathlib.Omega.{arith}
 use Rattle.reader.proofs.Bools.{passes}
-use Rattle.bounds.specs.Ranges.{Range, Peptides, has, count, those}
-use Rattle.bounds.proofs.Members.{In, in-those, those-in, clash, refuted}
+use Rattle.bounds.specs.Ranges.{Range, Peptides, has, count, those, In}
+use Rattle.bounds.proofs.Members.{in-those, those-in, clash, refuted}
 use Rattle.bounds.proofs.Counting.{Subset, SameSet}
 use Rattle.bounds.proofs.Laminar.{Laminar}
 use Rattle.bounds.proofs.Totals.{total-same}

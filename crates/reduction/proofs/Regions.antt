@@ -11,8 +11,8 @@ use Rattle.reader.specs.Family.{Region, Family, leaves, regionCount, region}
 use Rattle.reader.specs.Nesting.{regionsAround}
 use Rattle.reader.specs.Nesting
 use Rattle.reader.specs.WellFormed.{Ordered, NestedBelow}
-use Rattle.bounds.specs.Ranges.{Range, rangeOf, rangesOf, within, inside, sumOver}
-use Rattle.bounds.proofs.Members.{In, place, in-at, bit}
+use Rattle.bounds.specs.Ranges.{Range, rangeOf, rangesOf, within, inside, sumOver, In}
+use Rattle.bounds.proofs.Members.{place, in-at, bit}
 use Rattle.bounds.proofs.Family.{ranges-length, range-at, range-in}
 use Rattle.reduction.proofs.Grid.{Before, before-le, before-same, FileOrder}
 use Rattle.reduction.proofs.Plain.{Nest, apart, apart′, within as inner, around}

@@ -5,9 +5,9 @@ use mathlib.Core.List.{List}
 use mathlib.Core.Logic.{⊎-elim}
 use mathlib.Core.Path.{_≡_, refl}
 use native.Mathlib.Omega.{arith}
-use Rattle.bounds.specs.Ranges.{Range, Peptides, has}
+use Rattle.bounds.specs.Ranges.{Range, Peptides, has, In}
 use Rattle.bounds.specs.Bound.{total}
-use Rattle.bounds.proofs.Members.{In, clash}
+use Rattle.bounds.proofs.Members.{clash}
 use Rattle.bounds.proofs.Counting.{Subset, none, count-none}
 use Rattle.bounds.proofs.Nesting.{has-facts, has-holds, Inside, inner, inner-facts}
 use Rattle.bounds.proofs.Laminar.{Laminar, Fit, isInside, isAround, isBefore, isAfter, fit, member-hosts}

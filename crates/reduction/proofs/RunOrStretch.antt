@@ -5,8 +5,8 @@ use mathlib.Core.List.{List}
 use mathlib.Core.Logic.{⊎-elim}
 use mathlib.Core.Path.{_≡_, refl}
 use native.Mathlib.Omega.{arith}
-use Rattle.bounds.specs.Ranges.{Range, Peptides}
-use Rattle.bounds.proofs.Members.{In, clash, le-or-lt}
+use Rattle.bounds.specs.Ranges.{Range, Peptides, In}
+use Rattle.bounds.proofs.Members.{clash, le-or-lt}
 use Rattle.bounds.proofs.Laminar.{Laminar}
 use Rattle.reduction.specs.Reduction.{live, reduced}
 use Rattle.reduction.proofs.Unless.{lt-unless}

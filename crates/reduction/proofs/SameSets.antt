@@ -6,8 +6,7 @@ use mathlib.Core.Logic.{⊎-elim}
 use mathlib.Core.Path.{_≡_}
 use native.Mathlib.Nat.{eq-zero-or-pos}
 use native.Mathlib.Omega.{arith}
-use Rattle.bounds.specs.Ranges.{Range, Peptides, has, count}
-use Rattle.bounds.proofs.Members.{In}
+use Rattle.bounds.specs.Ranges.{Range, Peptides, has, count, In}
 use Rattle.bounds.proofs.Counting.{Subset}
 use Rattle.bounds.proofs.Nesting.{has-facts, has-holds}
 use Rattle.bounds.proofs.Laminar.{Laminar, Fit, isInside, isAround, isBefore, isAfter, fit}

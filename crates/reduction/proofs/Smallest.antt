@@ -9,8 +9,8 @@ use native.Mathlib.Omega.{arith}
 use lib.Dec.{eqb}
 use lib.ListN.{length}
 use borrow.Author.Tests.{eqb-true, eq-eqb}
-use Rattle.bounds.specs.Ranges.{Range, has}
-use Rattle.bounds.proofs.Members.{In, Found, clash, and-l, and-r, and-both, or-l, or-r, or-either, sum-ones}
+use Rattle.bounds.specs.Ranges.{Range, has, In}
+use Rattle.bounds.proofs.Members.{Found, clash, and-l, and-r, and-both, or-l, or-r, or-either, sum-ones}
 use Rattle.bounds.proofs.Nesting.{Has, has-facts, has-holds}
 use Rattle.reduction.specs.Reduction.{live, hasStretch, reduced}
 use Rattle.reduction.proofs.Grid.{Before, before-same}

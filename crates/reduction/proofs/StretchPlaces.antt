@@ -9,7 +9,7 @@ use lib.Dec.{eqb}
 use borrow.Author.Tests.{eqb-false, ne-eqb}
 use Rattle.reader.specs.Family.{Family, regionCount, region}
 use Rattle.reader.specs.WellFormed.{WellFormed}
-use Rattle.bounds.specs.Ranges.{Range, rangeOf, rangesOf, has}
+use Rattle.bounds.specs.Ranges.{Range, rangeOf, rangesOf, has, rangeAt}
 use Rattle.bounds.proofs.Members.{test, le-or-lt}
 use Rattle.bounds.proofs.Nesting.{Inside, inside-self, has-facts}
 use Rattle.bounds.proofs.Laminar.{Laminar, Fit, isInside, isAround, isBefore, isAfter, fit, meet, member-hosts}
@@ -20,10 +20,6 @@ use Rattle.reduction.specs.Keeping.{firstAt, lastAt, Outward}
 use Rattle.reduction.proofs.FirstLast.{firstOf-atMost, firstOf-is, lastOf-is}
 use Rattle.reduction.proofs.Live.{live-facts}
 use Rattle.reduction.proofs.Stretches.{StretchOf, live-in, in-live, its-stretch}
-
--- the range of the k-th region
-abbrev pub rangeAt : Family → ℕ → Range
-rangeAt F k = rangeOf F (region F k)
 
 -- The stretch of a range, if its z is at least 1 and it has a live peptide.
 module _ (F : Family) (r : Range) where

@@ -7,8 +7,8 @@ use mathlib.Core.Path.{_≡_, refl, sym, _∙_, ap}
 use native.Mathlib.Omega.{arith}
 use lib.Dec.{ltb, eqb}
 use borrow.Author.Tests.{ltb-true, lt-ltb, eqb-true, eq-eqb}
-use Rattle.bounds.specs.Ranges.{Range, Peptides, has, those}
-use Rattle.bounds.proofs.Members.{In, in-those, those-in, and-l, and-r, and-both, le-or-lt}
+use Rattle.bounds.specs.Ranges.{Range, Peptides, has, those, In}
+use Rattle.bounds.proofs.Members.{in-those, those-in, and-l, and-r, and-both, le-or-lt}
 use Rattle.bounds.proofs.Nesting.{has-facts, has-holds}
 use Rattle.reduction.specs.Reduction.{piece, live, livePeptides, firstOf, lastOf, hasStretch, smallestZ, merged, stretchAt, stretches}
 use Rattle.reduction.proofs.Grid.{in-grid, grid-in, FileOrder, grid-ordered}

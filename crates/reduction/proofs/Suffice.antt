@@ -5,9 +5,9 @@ use mathlib.Core.List.{List}
 use mathlib.Core.Logic.{⊎-elim}
 use mathlib.Core.Path.{_≡_, refl}
 use native.Mathlib.Omega.{arith}
-use Rattle.bounds.specs.Ranges.{Range, Peptides, has, count}
+use Rattle.bounds.specs.Ranges.{Range, Peptides, has, count, In}
 use Rattle.bounds.specs.Bound.{total}
-use Rattle.bounds.proofs.Members.{In, test, clash, and-l, and-r, refuted, le-or-lt}
+use Rattle.bounds.proofs.Members.{test, clash, and-l, and-r, refuted, le-or-lt}
 use Rattle.bounds.proofs.Counting.{Subset, none, adding, adding-either, card-none, card-adding, count-mono, count-adding-most, count-adding-other}
 use Rattle.bounds.proofs.Nesting.{Inside, inner-facts}
 use Rattle.bounds.proofs.Laminar.{meet, member-hosts}

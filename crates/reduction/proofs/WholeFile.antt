@@ -17,8 +17,8 @@ use Rattle.reader.specs.WellFormed.{WellFormed}
 use Rattle.reader.proofs.Below.{found, some-at}
 use Rattle.reader.proofs.Accepting.{well-formed}
 use Rattle.reader.proofs.Files.{file-length, field-read}
-use Rattle.bounds.specs.Ranges.{Range, Peptides, card, some, rangesOf}
-use Rattle.bounds.proofs.Members.{In, in-at, place, some-in, some-found, both-ways}
+use Rattle.bounds.specs.Ranges.{Range, Peptides, card, some, rangesOf, In}
+use Rattle.bounds.proofs.Members.{in-at, place, some-in, some-found, both-ways}
 use Rattle.reduction.specs.Reduction.{rising, endsLeaf, leafLengths, regionOf, writtenFamily, reducedFamily, reducedFile}
 use Rattle.reduction.specs.Steps.{Begins, reducedRanges, Listed}
 use Rattle.reduction.specs.Writing.{withNumbers, headerNumbers, OnLine, endsAt, Marks, markedIn, Counts, regionNumbers, Wrote}

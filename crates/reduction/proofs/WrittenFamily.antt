@@ -8,8 +8,8 @@ use lib.ListN.{getD, take}
 use lib.Seq.{take-all}
 use Rattle.reader.specs.Lists.{sum}
 use Rattle.reader.specs.Family.{leaves, regionCount}
-use Rattle.bounds.specs.Ranges.{Range, card, rangesOf}
-use Rattle.bounds.proofs.Members.{In, in-at, clash}
+use Rattle.bounds.specs.Ranges.{Range, card, rangesOf, In}
+use Rattle.bounds.proofs.Members.{in-at, clash}
 use Rattle.bounds.proofs.Counting.{card-less, none}
 use Rattle.bounds.proofs.Family.{ranges-length}
 use Rattle.reduction.specs.Reduction.{endsLeaf, leafLengths, writtenFamily}

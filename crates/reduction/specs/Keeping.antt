@@ -9,9 +9,8 @@ use lib.Dec.{ltb, eqb}
 use Rattle.reader.specs.Lists.{someBelow}
 use Rattle.reader.specs.Family.{Family, region, regionCount}
 use Rattle.reader.specs.WellFormed.{WellFormed}
-use Rattle.bounds.specs.Ranges.{Range, Peptides, rangeOf, rangesOf, those}
+use Rattle.bounds.specs.Ranges.{Range, Peptides, rangeOf, rangesOf, those, In}
 use Rattle.bounds.specs.Bound.{total}
-use Rattle.bounds.proofs.Members.{In}
 use Rattle.reduction.specs.Reduction.{live}
 use Rattle.reduction.specs.Steps.{Begins, liveBytes, firstLive, lastLive, reducedRanges}
 

@@ -8,13 +8,9 @@ use lib.ListN.{length, getD}
 use lib.Dec.{ltb}
 use Rattle.reader.specs.Family.{Family, familyOf, leaves, regionCount, region, peptidesUpTo}
 use Rattle.reader.specs.WellFormed.{WellFormed, ParentsBelow}
-use Rattle.bounds.specs.Ranges.{Range, Peptides, rangeOf, rangesOf}
+use Rattle.bounds.specs.Ranges.{Peptides, rangesOf, rangeAt}
 use Rattle.reduction.specs.Reduction.{live, lastOf}
 use Rattle.reduction.specs.Steps.{firstLive, lastLive}
-
--- the range of the k-th region
-abbrev pub range : Family → ℕ → Range
-range F k = rangeOf F (region F k)
 
 -- The low and high ends, in one pass over the leaves.
 
@@ -22,7 +18,7 @@ range F k = rangeOf F (region F k)
 pub record Lowered (F : Family) (j k : ℕ) (L : List ℕ) : Type 0 where
   pub few : k ≤ regionCount F
   pub before : (i : ℕ) → i < k → region F i .first ≤ j
-  pub low : (i : ℕ) → i < k → getD L i 0 ≡ range F i .low
+  pub low : (i : ℕ) → i < k → getD L i 0 ≡ rangeAt F i .low
 
 -- these are all the regions that begin at leaf j or before
 pub record Begun (F : Family) (j k : ℕ) (L : List ℕ) : Type 0 where
@@ -36,7 +32,7 @@ pub record Open (F : Family) (b e : ℕ) (H : List ℕ) (c : ℕ) : Type 0 where
   pub reaches : 1 ≤ c → e ≤ region F (c - 1) .last
   pub each :
       (i : ℕ) → i < regionCount F → region F i .first ≤ b
-      → (getD H i 0 ≡ range F i .high) ⊎ ((i < c) × (region F (c - 1) .last ≤ region F i .last))
+      → (getD H i 0 ≡ rangeAt F i .high) ⊎ ((i < c) × (region F (c - 1) .last ≤ region F i .last))
 
 -- what is known where the regions of leaf j + 1 begin
 pub record Beginning (F : Family) (j sum k : ℕ) (L : List ℕ) : Type 0 where
@@ -71,8 +67,8 @@ pub record Roomy (F : Family) (A B : List ℕ) : Type 0 where
 
 -- the low and high ends of every region
 pub record Ends (F : Family) (L H : List ℕ) : Type 0 where
-  pub low : (i : ℕ) → i < regionCount F → getD L i 0 ≡ range F i .low
-  pub high : (i : ℕ) → i < regionCount F → getD H i 0 ≡ range F i .high
+  pub low : (i : ℕ) → i < regionCount F → getD L i 0 ≡ rangeAt F i .low
+  pub high : (i : ℕ) → i < regionCount F → getD H i 0 ≡ rangeAt F i .high
 
 -- a family with the low and high ends of its regions
 pub record Ended (F : Family) (L H : List ℕ) : Type 0 where
@@ -141,10 +137,10 @@ pub record WithLasts (F : Family) (L H B C : List ℕ) : Type 0 where
 
 -- those of the first k regions are right
 abbrev pub FirstsUpTo : Family → ℕ → List ℕ → Type 0
-FirstsUpTo F k A = (i : ℕ) → i < k → getD A i 0 ≡ firstLive F (range F i)
+FirstsUpTo F k A = (i : ℕ) → i < k → getD A i 0 ≡ firstLive F (rangeAt F i)
 
 abbrev pub LastsUpTo : Family → ℕ → List ℕ → Type 0
-LastsUpTo F k B = (i : ℕ) → i < k → getD B i 0 ≡ lastLive F (range F i)
+LastsUpTo F k B = (i : ℕ) → i < k → getD B i 0 ≡ lastLive F (rangeAt F i)
 
 -- room for the live bytes, and for the first and last live peptides
 pub record Rooms (s L A B : List ℕ) : Type 0 where

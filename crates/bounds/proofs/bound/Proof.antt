@@ -8,14 +8,15 @@ use denote.Ref.{now}
 use Rattle.reader.specs.Family.{familyOf, regionCount}
 use Rattle.reader.specs.Causes.{firstCause}
 use Rattle.reader.proofs.Accepting.{accepted-header, few-regions}
-use Rattle.bounds.specs.Rows.{Ready, causesWith}
+use Rattle.bounds.specs.Rows.{Ready}
+use Rattle.bounds.specs.Calls.{causesWithRoom}
 use Rattle.bounds.proofs.TakenBytes.{taken-along, taken-length}
 use Rattle.bounds.proofs.SelectionCalls.{none-holds, none-ready, refuses, unchanged, gives-bound, writes-all}
 use borrow.Author.Needs.{needs}
 use Rattle.bounds.proofs.bound.Statement.{statement}
 use Rattle.bounds.proofs.bound.Tie as tie
 
-clear : (c : tie.Else1) → firstCause (causesWith (now (c .before .before .before .before .before .args .file)) (now (c .before .before .before .before .before .args .selection)) (length (now (c .before .before .before .before .before .args .taken)))) ≡ 0
+clear : (c : tie.Else1) → firstCause (causesWithRoom (now (c .before .before .before .before .before .args .file)) (now (c .before .before .before .before .before .args .selection)) (length (now (c .before .before .before .before .before .args .taken)))) ≡ 0
 clear c = sym (c .before .selection-cause .ensures) ∙ c .if1 .left
 
 ready : (c : tie.Else1) → Ready (familyOf (now (c .before .before .before .before .before .args .file))) (now (c .before .before .before .before .before .args .selection))
@@ -56,7 +57,7 @@ returns-2 c =
     let line = c .before .before .before .before .before .before .line-value .ensures in
     let along = taken-along (ready (c .before .before .before .before .before .before .before .before) .formed) S (c .before .before .before .before .before .before .line-value .last .1 .1 .0) (λ k l. line .stored .totals k (omega arith) l) in
     let all = c .before .before .write-taken .ensures ∙ ap (λ (L : List ℕ). L ++ drop (regionCount F) out) along in
-    (gives-bound s S out _ h (line .bound), writes-all s S out _ _ h (taken-length F S) all)
+    (gives-bound s S _ _ h (line .bound), writes-all s S out _ _ h (taken-length F S) all)
 
 pub bound-spec : {M : Type 1} → statement M
 bound-spec =

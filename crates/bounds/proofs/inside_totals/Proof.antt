@@ -5,14 +5,14 @@ use lib.ListN.{length}
 use denote.Ref.{now}
 use Rattle.reader.specs.Family.{familyOf}
 use Rattle.reader.specs.Causes.{firstCause}
-use Rattle.bounds.specs.Rows.{causesWith}
+use Rattle.bounds.specs.Calls.{causesWithRoom}
 use Rattle.bounds.proofs.TakenBytes.{totals-written, totals-length}
 use Rattle.bounds.proofs.SelectionCalls.{none-holds, none-ready, refuses, unchanged, gives-bound, writes-all}
 use borrow.Author.Needs.{needs}
 use Rattle.bounds.proofs.inside_totals.Statement.{statement}
 use Rattle.bounds.proofs.inside_totals.Tie as tie
 
-clear : (c : tie.Else1) → firstCause (causesWith (now (c .before .before .before .before .before .args .file)) (now (c .before .before .before .before .before .args .selection)) (length (now (c .before .before .before .before .before .args .out)))) ≡ 0
+clear : (c : tie.Else1) → firstCause (causesWithRoom (now (c .before .before .before .before .before .args .file)) (now (c .before .before .before .before .before .args .selection)) (length (now (c .before .before .before .before .before .args .out)))) ≡ 0
 clear c = sym (c .before .selection-cause .ensures) ∙ c .if1 .left
 
 selection-cause-requires : tie.Need-selection-cause-requires
@@ -37,7 +37,7 @@ returns-2 c =
     let h = clear (c .before .before .before .before) in
     let line = c .before .before .line-value .ensures in
     let all = totals-written (familyOf s) S out _ (c .before .before .line-value .kept .1 .1 .0) (none-holds s S _ h .room) (line .stored) in
-    (gives-bound s S out _ h (line .bound), writes-all s S out _ _ h (totals-length (familyOf s) S) all)
+    (gives-bound s S _ _ h (line .bound), writes-all s S out _ _ h (totals-length (familyOf s) S) all)
 
 pub inside-totals-spec : {M : Type 1} → statement M
 inside-totals-spec =

@@ -7,6 +7,7 @@ use lib.ListN.{length, length-set}
 use denote.Ref.{now}
 use Rattle.reader.specs.Family.{familyOf, regionCount}
 use Rattle.reader.proofs.Parsed.{held-last, held-z}
+use Rattle.reader.proofs.bytes.smaller.Reads as smaller-reads
 use Rattle.reader.proofs.family.region_of.Reads as region-of-reads
 use Rattle.bounds.specs.Rows.{Stored}
 use Rattle.bounds.proofs.RowWalk.{Along, begun, leaf-before, pass-fits, row-fits, stored-none, stored-more, row-starts, row-meets, region-meets, row-steps, row-finishes, region-row, region-finishes}
@@ -22,7 +23,6 @@ use Rattle.bounds.proofs.rows.+region_value+row_value.Lts-row_value as 
 use Rattle.bounds.proofs.cursor.begins_by.Reads as begins-by-reads
 use Rattle.bounds.proofs.cursor.pass.Reads as pass-reads
 use Rattle.bounds.proofs.cursor.pass_to_region.Reads as pass-to-region-reads
-use Rattle.bounds.proofs.rows.smaller.Reads as smaller-reads
 use Rattle.bounds.proofs.rows.+region_value+row_value.{statement}
 use Rattle.bounds.proofs.rows.+region_value+row_value.Tie.{close}
 

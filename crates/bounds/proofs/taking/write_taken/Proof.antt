@@ -5,9 +5,7 @@ use mathlib.Core.List.{List, _++_}
 use mathlib.Core.Path.{_≡_, refl, ap, _∙_}
 use lib.ListN.{length, set, take, drop, length-set}
 use denote.Ref.{now}
-use Rattle.reader.specs.Bytes.{numberAt}
 use Rattle.reader.specs.Family.{familyOf, regionCount}
-use Rattle.reader.proofs.Parsed.{regions-read}
 use Rattle.bounds.proofs.TakenBytes.{until-next, taken-next, taken-all}
 use Rattle.bounds.specs.Takes.{takenUntil, takenAlong}
 use borrow.Author.Needs.{needs}
@@ -16,18 +14,18 @@ use Rattle.bounds.proofs.taking.write_taken.Tie as tie
 
 abbrev Inv-loop : tie.InvT-loop
 Inv-loop file totals taken₀ regions until₀ k₀ taken until k =
-    (k ≤ regions) × (regions ≡ numberAt file 8) × (length taken ≡ length taken₀) × (until .0 ≡ takenUntil (familyOf file) totals k)
+    (k ≤ regions) × (regions ≡ regionCount (familyOf file)) × (length taken ≡ length taken₀) × (until .0 ≡ takenUntil (familyOf file) totals k)
     × (taken ≡ take k (takenAlong (familyOf file) totals) ++ drop k taken₀)
 
 abbrev μ-loop : tie.MeasureT-loop
 μ-loop file totals taken₀ regions until₀ k₀ taken until k = regions - k
 
-number-at-requires : tie.Need-number-at-requires Inv-loop μ-loop
-number-at-requires c κs = search needs
+region-count-requires : tie.Need-region-count-requires Inv-loop μ-loop
+region-count-requires c κs = search needs
 
 loop-holds : tie.Need-loop-holds Inv-loop μ-loop
 unfolding takenUntil
-loop-holds c = (omega arith, c .number-at .ensures, refl, refl, refl)
+loop-holds c = (omega arith, c .region-count .ensures, refl, refl, refl)
 
 cast-take : tie.Need-cast-take Inv-loop μ-loop
 cast-take c = search needs
@@ -37,9 +35,8 @@ mul-take c = search needs
 
 shared-slice-read-take : tie.Need-shared-slice-read-take Inv-loop μ-loop
 shared-slice-read-take c =
-    let s = now (c .before .before .before .before .before .before .before .args .file) in
     let inv = c .before .before .loop .inv in
-    omega (arith, c .before .before .before .before .before .before .before .pre .0, regions-read s, inv .1, c .before .loop-test .taken)
+    omega (arith, c .before .before .before .before .before .before .before .pre .0, inv .1, c .before .loop-test .taken)
 
 take-requires : tie.Need-take-requires Inv-loop μ-loop
 take-requires c κs = search needs
@@ -49,9 +46,8 @@ cast-taken c = search needs
 
 slice-write-taken : tie.Need-slice-write-taken Inv-loop μ-loop
 slice-write-taken c =
-    let s = now (c .before .before .before .before .before .before .before .before .args .file) in
     let inv = c .before .before .before .loop .inv in
-    omega (arith, c .before .before .before .before .before .before .before .before .pre .1, regions-read s, inv .1, inv .2, c .before .before .loop-test .taken)
+    omega (arith, c .before .before .before .before .before .before .before .before .pre .1, inv .1, inv .2, c .before .before .loop-test .taken)
 
 add-k : tie.Need-add-k Inv-loop μ-loop
 add-k c = search needs
@@ -68,7 +64,7 @@ loop-again c =
     let k = c .before .before .before .before .loop .k in
     let inv = c .before .before .before .before .loop .inv in
     let e = c .before .take .ensures in
-    let here : k < regionCount F = omega (arith, regions-read s, inv .1, c .before .before .before .loop-test .taken) in (
+    let here : k < regionCount F = omega (arith, inv .1, c .before .before .before .loop-test .taken) in (
       omega arith,
       inv .1,
       simp length-set (inv .2),
@@ -83,7 +79,7 @@ returns : tie.Need-returns Inv-loop μ-loop
 returns c =
     let s = now (c .before .before .before .before .before .before .args .file) in
     let inv = c .before .loop .inv in
-    let e : c .before .loop .k ≡ regionCount (familyOf s) = omega (arith, regions-read s, inv .0, inv .1, c .loop-test .left) in
+    let e : c .before .loop .k ≡ regionCount (familyOf s) = omega (arith, inv .0, inv .1, c .loop-test .left) in
     rw (taken-all (familyOf s) (now (c .before .before .before .before .before .before .args .totals))) at (rw e at (inv .4))
 
 pub write-taken-spec : {M : Type 1} → statement M
@@ -92,7 +88,7 @@ write-taken-spec =
     (tie.spec
     Inv-loop
     μ-loop
-    number-at-requires
+    region-count-requires
     loop-holds
     cast-take
     mul-take

@@ -4,14 +4,14 @@ use native.Mathlib.Omega.{arith}
 use mathlib.Core.Path.{_≡_}
 use denote.Ref.{now}
 use Rattle.reader.specs.Family.{familyOf, region}
-use Rattle.reader.proofs.Parsed.{regions-read, held-first}
-use Rattle.bounds.proofs.Holding.{Between, search-right, search-left, search-ends}
+use Rattle.reader.proofs.Parsed.{held-first}
+use Rattle.bounds.proofs.Holding.{BegunBetween, search-right, search-left, search-ends}
 use borrow.Author.Needs.{needs}
 use Rattle.bounds.proofs.walk.begun.Statement.{statement}
 use Rattle.bounds.proofs.walk.begun.Tie as tie
 
 abbrev Inv-loop : tie.InvT-loop
-Inv-loop file place low₀ high₀ low high = Between (familyOf file) place low high
+Inv-loop file place low₀ high₀ low high = BegunBetween (familyOf file) place low high
 
 abbrev μ-loop : tie.MeasureT-loop
 μ-loop file place low₀ high₀ low high = high - low
@@ -23,26 +23,24 @@ first-read : (c : tie.After-region-of Inv-loop μ-loop) → c .region-of .result
 unfolding middle
 first-read c = held-first _ _ (c .region-of .ensures)
 
-number-at-requires : tie.Need-number-at-requires Inv-loop μ-loop
-number-at-requires c κs = search needs
+region-count-requires : tie.Need-region-count-requires Inv-loop μ-loop
+region-count-requires c κs = search needs
 
 loop-holds : tie.Need-loop-holds Inv-loop μ-loop
 loop-holds c =
-    let s = now (c .before .before .args .file) in
-    let e = regions-read s in
-    (omega arith, omega (arith, c .number-at .ensures), λ i l. absurd (omega arith), λ i l u. absurd (omega (arith, c .number-at .ensures)))
+    (omega arith, omega (arith, c .region-count .ensures), λ i l. absurd (omega arith), λ i l u. absurd (omega (arith, c .region-count .ensures)))
 
 sub-middle : tie.Need-sub-middle Inv-loop μ-loop
 sub-middle c = search needs
 
 add-middle : tie.Need-add-middle Inv-loop μ-loop
-add-middle c = omega (arith, regions-read (now (c .before .before .before .before .args .file)), c .before .loop .inv .1, c .before .before .number-at .ensures, c .before .before .number-at .ok)
+add-middle c = omega (arith, c .before .loop .inv .1, c .before .before .region-count .ensures, c .before .before .region-count .ok)
 
 region-of-requires : tie.Need-region-of-requires Inv-loop μ-loop
 region-of-requires c κs = search needs
 
 add-low : tie.Need-add-low Inv-loop μ-loop
-add-low c = omega (arith, regions-read (now (c .before .before .before .before .before .before .args .file)), c .before .before .before .loop .inv .1, c .before .before .before .before .number-at .ensures, c .before .before .before .before .number-at .ok)
+add-low c = omega (arith, c .before .before .before .loop .inv .1, c .before .before .before .before .region-count .ensures, c .before .before .before .before .region-count .ok)
 
 loop-less : tie.Need-loop-less Inv-loop μ-loop
 loop-less c = search needs
@@ -67,7 +65,7 @@ begun-spec =
     (tie.spec
     Inv-loop
     μ-loop
-    number-at-requires
+    region-count-requires
     loop-holds
     sub-middle
     add-middle

@@ -5,13 +5,13 @@ use mathlib.Core.Path.{_≡_}
 use denote.Ref.{now}
 use Rattle.reader.specs.Family.{familyOf, region}
 use Rattle.reader.proofs.Parsed.{held-last}
-use Rattle.bounds.proofs.Holding.{Climbing, climb-starts, climb-steps, climb-stops, climb-ends}
+use Rattle.bounds.proofs.Holding.{HoldersBelow, climb-starts, climb-steps, climb-stops, climb-ends}
 use borrow.Author.Needs.{needs}
 use Rattle.bounds.proofs.walk.innermost.Statement.{statement}
 use Rattle.bounds.proofs.walk.innermost.Tie as tie
 
 abbrev Inv-loop : tie.InvT-loop
-Inv-loop file parents place number₀ number = Climbing (familyOf file) place number
+Inv-loop file parents place number₀ number = HoldersBelow (familyOf file) place number
 
 abbrev μ-loop : tie.MeasureT-loop
 μ-loop file parents place number₀ number = number

@@ -12,7 +12,7 @@ use Rattle.bounds.specs.Ranges.{rangesOf}
 use Rattle.bounds.specs.Curves.{entry, curveValues, markAt, curveMarks}
 use Rattle.bounds.proofs.Counting.{none}
 use Rattle.bounds.proofs.Greedy.{greedy}
-use Rattle.bounds.proofs.Walking.{Counts, counts-start, counts-most, entry-start, Next, next, write-none, write-first, write-more}
+use Rattle.bounds.proofs.Walking.{RegionCounts, counts-start, counts-most, entry-start, RightStep, next, write-none, write-first, write-more}
 use borrow.Author.Needs.{needs}
 use Rattle.bounds.proofs.walk.write_curve.Statement.{statement}
 use Rattle.bounds.proofs.walk.write_curve.Tie as tie
@@ -27,12 +27,12 @@ Inv-loop file parents path values₀ marks₀ counts₀ entry₀ t₀ values mar
     × (e ≡ entry (familyOf file) path t)
     × (values ≡ tabulate (t + 1) (entry (familyOf file) path) ++ drop (t + 1) values₀)
     × (marks ≡ tabulate t (λ i. markAt (familyOf file) path (i + 1)) ++ drop t marks₀)
-    × Counts (familyOf file) (greedy (familyOf file .peptides) (rangesOf (familyOf file)) none (take t path)) counts
+    × RegionCounts (familyOf file) (greedy (familyOf file .peptides) (rangesOf (familyOf file)) none (take t path)) counts
 
 abbrev μ-loop : tie.MeasureT-loop
 μ-loop file parents path values₀ marks₀ counts₀ entry₀ t₀ values marks counts e t = length path - t
 
-stepped : (c : tie.After-mark-next Inv-loop μ-loop) → Next (c .before .before .before .before .before .before .before .before .before .before .pre .0 .well) (c .before .before .before .before .before .before .before .before .before .before .pre .0 .different) (c .before .before .before .before .loop .t) (c .mark-next .last .1 .1 .0) (c .mark-next .result)
+stepped : (c : tie.After-mark-next Inv-loop μ-loop) → RightStep (c .before .before .before .before .before .before .before .before .before .before .pre .0 .well) (c .before .before .before .before .before .before .before .before .before .before .pre .0 .different) (c .before .before .before .before .loop .t) (c .mark-next .last .1 .1 .0) (c .mark-next .result)
 stepped c = next (c .before .before .before .before .before .before .before .before .before .before .pre .0 .well) (c .before .before .before .before .before .before .before .before .before .before .pre .0 .different) (c .before .before .before .before .loop .t) (c .before .before .before .loop-test .taken) (c .before .before .before .before .loop .counts) _ _ (c .before .before .before .before .loop .inv .8) (c .mark-next .ensures)
 
 slice-write-values : tie.Need-slice-write-values Inv-loop μ-loop

@@ -7,8 +7,9 @@ use denote.Ref.{now}
 use Rattle.reader.specs.Bytes.{numberAt}
 use Rattle.reader.specs.Family.{familyOf, region, regionCount}
 use Rattle.reader.proofs.Parsed.{regions-read, held-z}
+use Rattle.bounds.specs.Ranges.{rangeAt}
 use Rattle.reduction.specs.Steps.{firstLive}
-use Rattle.reduction.specs.Passes.{range, FirstsUpTo}
+use Rattle.reduction.specs.Passes.{FirstsUpTo}
 use Rattle.reduction.proofs.OpenRegions.{more-stored}
 use Rattle.reduction.proofs.DeadPeptides.{low-high, high-small}
 use Rattle.reduction.proofs.NearestLive.{first-found}
@@ -100,7 +101,7 @@ loop-again c =
       omega (arith, c .before .before .before .before .before .loop-test .taken),
       inv .1,
       simp length-set (inv .2),
-      more-stored (c .before .before .before .before .before .before .loop .firsts) k _ (λ i. firstLive _ (range _ i)) (omega (arith, pre .room, inv .2)) (inv .3)
+      more-stored (c .before .before .before .before .before .before .loop .firsts) k _ (λ i. firstLive _ (rangeAt _ i)) (omega (arith, pre .room, inv .2)) (inv .3)
           (first-found _ k _ _ _ (held-z _ _ (c .before .before .before .before .region-of .ensures)) (pre .ended .ends .low k h) (pre .ended .ends .high k h) _ _ (pre .nexts (low + 1) (omega arith) (omega (arith, low-small (c .before .before .before .before .before)))) (c .first-within .ensures)),
     )
 

@@ -7,8 +7,9 @@ use denote.Ref.{now}
 use Rattle.reader.specs.Bytes.{numberAt}
 use Rattle.reader.specs.Family.{familyOf, region, regionCount}
 use Rattle.reader.proofs.Parsed.{regions-read, held-z}
+use Rattle.bounds.specs.Ranges.{rangeAt}
 use Rattle.reduction.specs.Steps.{lastLive}
-use Rattle.reduction.specs.Passes.{range, LastsUpTo}
+use Rattle.reduction.specs.Passes.{LastsUpTo}
 use Rattle.reduction.proofs.OpenRegions.{more-stored}
 use Rattle.reduction.proofs.DeadPeptides.{high-small}
 use Rattle.reduction.proofs.NearestLive.{last-found}
@@ -96,7 +97,7 @@ loop-again c =
       omega (arith, c .before .before .before .before .before .loop-test .taken),
       inv .1,
       simp length-set (inv .2),
-      more-stored (c .before .before .before .before .before .before .loop .lasts) k _ (λ i. lastLive _ (range _ i)) (omega (arith, pre .room, inv .2)) (inv .3)
+      more-stored (c .before .before .before .before .before .before .loop .lasts) k _ (λ i. lastLive _ (rangeAt _ i)) (omega (arith, pre .room, inv .2)) (inv .3)
           (last-found _ k _ _ _ (held-z _ _ (c .before .before .before .before .region-of .ensures)) (pre .ended .ends .low k h) (pre .ended .ends .high k h) (pre .ended .formed) h _ _ (pre .lasts high (high-place (c .before .before .before .before .before))) (c .last-within .ensures)),
     )
 
