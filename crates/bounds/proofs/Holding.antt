@@ -74,6 +74,7 @@ module _ (F : Family) (o : Ordered F) (leaf low high : ℕ) (inv : BegunBetween 
 
 -- The climb from there to the last region that holds the leaf.
 
+-- the regions that hold the leaf are among the first c, and all of these begin at the leaf or before it
 abbrev pub HoldersBelow : Family → ℕ → ℕ → Type 0
 HoldersBelow F leaf c =
     (c ≤ regionCount F)

@@ -31,6 +31,7 @@ use Rattle.bounds.proofs.Holding.{crowdedAt, holds-facts, from-holds}
 
 -- The ranges of a family, by the numbers of its regions.
 
+-- the range is that of a region
 pub record OfRegion (F : Family) (r : Range) : Type 0 where
   pub at : ℕ
   pub few : at < regionCount F
