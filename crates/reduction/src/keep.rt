@@ -1,10 +1,12 @@
 // The kept stretches of a family and, with the longest runs of dead peptides, the list of the reduced ranges.
-use reader::bytes::number_at;
+use reader::bytes::smaller;
+use reader::family::peptide_count;
+use reader::family::region_count;
 use reader::family::region_of;
 ghost use mathlib.Core.Bool.{Bool, true, not, _&&_};
 ghost use lib.Dec.{eqb};
 ghost use mathlib.Core.Path.{_≡_};
-ghost use Prim.Native.Nat.{_+_, _-_, _<_, _≤_, min};
+ghost use Prim.Native.Nat.{_+_, _-_, _<_, _≤_};
 ghost use lib.ListN.{length, getD};
 ghost use Rattle.reader.specs.Family.{familyOf, regionCount};
 ghost use Rattle.reader.specs.WellFormed.{ParentsBelow};
@@ -26,12 +28,6 @@ fn nth(numbers: &[u16], k: u16) -> u16
 {
     let i = k as usize;
     if i < numbers.len() { numbers[i] } else { 0 }
-}
-
-fn smaller(a: u16, b: u16) -> u16
-    ensures { λ r. ⌜ r ≡ min a b ⌝ }
-{
-    if a < b { a } else { b }
 }
 
 // Whether two regions have the same first and last live peptides.
@@ -100,7 +96,7 @@ fn weigh(
     requires { ⌜ regionCount (familyOf (now file)) ≤ length (now around) ⌝ }
     ensures { λ _. ⌜ WeighedBelow (familyOf (now (file .entry))) (now (least .exit)) (now (around .exit)) (regionCount (familyOf (now (file .entry)))) ⌝ }
 {
-    let regions = number_at(file, 8);
+    let regions = region_count(file);
     let mut k = 0;
     while k < regions {
         let weights = weigh_region(file, parents, firsts, lasts, least, around, k);
@@ -164,7 +160,7 @@ fn mark_kept(
     ensures { λ _. ⌜ Marked (familyOf (now (file .entry))) (now (kept .exit)) 0 ⌝ }
 {
     let mut next = 0;
-    let mut k = number_at(file, 8);
+    let mut k = region_count(file);
     while k != 0 {
         k -= 1;
         kept[k as usize] = kept_bound(totals, firsts, lasts, least, around, next, k);
@@ -227,7 +223,7 @@ fn append_runs(
     requires { ⌜ Somehow (familyOf (now file)) begin count (now from) (now to) (now bounds) ⌝ }
     ensures { λ r. ⌜ ((t : Range → Bool) → Gathered (familyOf (now (file .entry))) t begin count (now (from .entry)) (now (to .entry)) (now (bounds .entry)) → Gathered (familyOf (now (file .entry))) t end r (now (from .exit)) (now (to .exit)) (now (bounds .exit))) ⌝ }
 {
-    let peptides = number_at(file, 4);
+    let peptides = peptide_count(file);
     let mut n = count;
     let mut p = begin;
     while p < end {
@@ -261,8 +257,8 @@ fn gather(
     requires { ⌜ RunsAhead (familyOf (now file)) (now live) 1 (familyOf (now file) .peptides + 1) (now from) (now to) (now bounds) ⌝ }
     ensures { λ r. ⌜ Listed (now (file .entry)) r (now (from .exit)) (now (to .exit)) (now (bounds .exit)) ⌝ }
 {
-    let peptides = number_at(file, 4);
-    let regions = number_at(file, 8);
+    let peptides = peptide_count(file);
+    let regions = region_count(file);
     let mut n = 0;
     let mut next = 1;
     let mut k = 0;

@@ -5,8 +5,8 @@ mod write;
 
 use keep::list_reduced;
 use reader::Checked;
-use reader::bytes::number_at;
 use reader::bytes::same_bytes;
+use reader::family::peptide_count;
 use stretch::find_stretches;
 use write::write_reduced;
 ghost use mathlib.Core.Path.{_≡_};
@@ -63,7 +63,7 @@ fn live_totals(file: &[u8], live: &[u8], totals: &mut [u16])
     requires { ⌜ 8191 ≤ length (now totals) ⌝ }
     ensures { λ _. ⌜ Totalled (now (file .entry)) (now (totals .exit)) ⌝ }
 {
-    let m = number_at(file, 4) as usize;
+    let m = peptide_count(file) as usize;
     bounds::inside_totals(file, &live[0..m], totals);
 }
 

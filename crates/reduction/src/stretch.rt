@@ -1,8 +1,10 @@
 // The live peptides, and the first and last live peptide of each region: passes over the leaves, the regions and
 // the peptides, each linear.
-use reader::bytes::number_at;
 use reader::family::Leaf;
+use reader::family::leaf_count;
 use reader::family::leaf_length;
+use reader::family::peptide_count;
+use reader::family::region_count;
 use reader::family::region_of;
 ghost use mathlib.Core.Path.{_≡_};
 ghost use mathlib.Core.Bool.{cond};
@@ -20,7 +22,7 @@ fn begin_regions(file: &[u8], passed: u16, sum: u16, begun: u16, lows: &mut [u16
     requires { ⌜ Beginning (familyOf (now file)) passed sum begun (now lows) ⌝ }
     ensures { λ r. ⌜ Began (familyOf (now (file .entry))) (passed + 1) begun r (now (lows .exit)) ⌝ }
 {
-    let regions = number_at(file, 8);
+    let regions = region_count(file);
     let mut k = begun;
     while k < regions {
         let r = region_of(file, k);
@@ -73,7 +75,7 @@ fn find_ends(file: &[u8], parents: &[u16], lows: &mut [u16], highs: &mut [u16])
     requires { ⌜ Roomy (familyOf (now file)) (now lows) (now highs) ⌝ }
     ensures { λ _. ⌜ Ends (familyOf (now (file .entry))) (now (lows .exit)) (now (highs .exit)) ⌝ }
 {
-    let leaves = number_at(file, 6);
+    let leaves = leaf_count(file);
     let mut sum = 0;
     let mut begun = 0;
     let mut inner = 0;
@@ -123,7 +125,7 @@ fn find_live(file: &[u8], lows: &[u16], highs: &[u16], live: &mut [u8])
     requires { ⌜ familyOf (now file) .peptides ≤ length (now live) ⌝ }
     ensures { λ _. ⌜ LiveUpTo (familyOf (now (file .entry))) (familyOf (now (file .entry)) .peptides) (now (live .exit)) ⌝ }
 {
-    let regions = number_at(file, 8);
+    let regions = region_count(file);
     let mut settled = 0;
     let mut until = 0;
     let mut k = 0;
@@ -135,7 +137,7 @@ fn find_live(file: &[u8], lows: &[u16], highs: &[u16], live: &mut [u8])
         until = dead_until(r.z, highs[k as usize], until);
         k += 1;
     }
-    mark_live(live, settled, number_at(file, 4), until);
+    mark_live(live, settled, peptide_count(file), until);
 }
 
 // The peptide if it is live, else the other one.
@@ -206,7 +208,7 @@ fn write_firsts(file: &[u8], lows: &[u16], highs: &[u16], after: &[u16], firsts:
     requires { ⌜ WithNexts (familyOf (now file)) (now lows) (now highs) (now after) (now firsts) ⌝ }
     ensures { λ _. ⌜ FirstsUpTo (familyOf (now (file .entry))) (regionCount (familyOf (now (file .entry)))) (now (firsts .exit)) ⌝ }
 {
-    let regions = number_at(file, 8);
+    let regions = region_count(file);
     let mut k = 0;
     while k < regions {
         let r = region_of(file, k);
@@ -222,7 +224,7 @@ fn write_lasts(file: &[u8], lows: &[u16], highs: &[u16], before: &[u16], lasts: 
     requires { ⌜ WithLasts (familyOf (now file)) (now lows) (now highs) (now before) (now lasts) ⌝ }
     ensures { λ _. ⌜ LastsUpTo (familyOf (now (file .entry))) (regionCount (familyOf (now (file .entry)))) (now (lasts .exit)) ⌝ }
 {
-    let regions = number_at(file, 8);
+    let regions = region_count(file);
     let mut k = 0;
     while k < regions {
         let r = region_of(file, k);
@@ -247,7 +249,7 @@ fn write_stretches(
     ensures { λ _. ⌜ FirstsUpTo (familyOf (now (file .entry))) (regionCount (familyOf (now (file .entry)))) (now (firsts .exit)) ⌝ }
     ensures { λ _. ⌜ LastsUpTo (familyOf (now (file .entry))) (regionCount (familyOf (now (file .entry)))) (now (lasts .exit)) ⌝ }
 {
-    let m = number_at(file, 4);
+    let m = peptide_count(file);
     let mut after = [0u16; 4098];
     fill_after(live, m, &mut after);
     write_firsts(file, lows, highs, &after, firsts);

@@ -5,9 +5,7 @@ use mathlib.Core.Bool.{Bool}
 use mathlib.Core.Path.{_≡_, refl, sym, _∙_, subst}
 use native.Mathlib.Omega.{arith}
 use lib.ListN.{length, length-set}
-use Rattle.reader.specs.Bytes.{numberAt}
 use Rattle.reader.specs.Family.{familyOf, regionCount}
-use Rattle.reader.proofs.Parsed.{peptides-read}
 use Rattle.bounds.specs.Ranges.{Range, rangesOf}
 use Rattle.bounds.specs.Selections.{selected}
 use Rattle.reduction.specs.Reduction.{live}
@@ -20,7 +18,7 @@ use Rattle.reduction.proofs.keep.append_runs.Tie as tie
 
 abbrev Inv-loop : tie.InvT-loop
 Inv-loop file live begin end from₀ to₀ bounds₀ count peptides n₀ p₀ from to bounds n p =
-    (begin ≤ p) × (p ≤ end) × (peptides ≡ numberAt file 4) × (length from ≡ length from₀) × (length to ≡ length to₀) × (length bounds ≡ length bounds₀)
+    (begin ≤ p) × (p ≤ end) × (peptides ≡ familyOf file .peptides) × (length from ≡ length from₀) × (length to ≡ length to₀) × (length bounds ≡ length bounds₀)
     × ((t : Range → Bool) → Gathered (familyOf file) t begin count from₀ to₀ bounds₀ → Gathered (familyOf file) t p n from to bounds)
 
 abbrev μ-loop : tie.MeasureT-loop
@@ -32,7 +30,7 @@ its-run c =
     let s = now (c .before .before .before .before .before .before .before .before .before .before .before .args .file) in
     let pre = c .before .before .before .before .before .before .before .before .before .before .before .pre .0 in
     let inv = c .before .before .before .before .loop .inv in
-    let m = inv .2 ∙ sym (peptides-read s) in
+    let m = inv .2 in
     run-here (familyOf s) (now (c .before .before .before .before .before .before .before .before .before .before .before .args .live)) (pre .lives) (c .before .before .before .before .loop .p) (c .run-end .result) (omega (arith, pre .positive, inv .0)) (sym (c .before .before .begins-run .ensures) ∙ c .before .if1 .taken)
     (subst (λ (i : ℕ). RunTo i (selected (now (c .before .before .before .before .before .before .before .before .before .before .before .args .live))) (c .before .before .before .before .loop .p) (c .run-end .result)) m (c .run-end .ensures))
 
@@ -41,11 +39,11 @@ room c =
     let (t, g) = c .before .before .before .before .before .before .before .before .before .before .before .pre .1 in
     run-room (familyOf (now (c .before .before .before .before .before .before .before .before .before .before .before .args .file))) t (c .before .before .before .before .loop .p) (c .before .before .before .before .loop .n) _ _ _ (c .before .before .before .before .loop .inv .6 t g) (c .run-end .result) (its-run c)
 
-number-at-requires : tie.Need-number-at-requires Inv-loop μ-loop
-number-at-requires c κs = search needs
+peptide-count-requires : tie.Need-peptide-count-requires Inv-loop μ-loop
+peptide-count-requires c κs = search needs
 
 loop-holds : tie.Need-loop-holds Inv-loop μ-loop
-loop-holds c = (omega arith, c .before .before .before .before .before .before .pre .0 .order, c .number-at .ensures, refl, refl, refl, λ t g. g)
+loop-holds c = (omega arith, c .before .before .before .before .before .before .pre .0 .order, c .peptide-count .ensures, refl, refl, refl, λ t g. g)
 
 add-p : tie.Need-add-p Inv-loop μ-loop
 add-p c = search needs
@@ -56,7 +54,7 @@ begins-run-requires c κs = search needs
 run-end-requires : tie.Need-run-end-requires Inv-loop μ-loop
 run-end-requires c κs =
     let inv = c .before .before .before .loop .inv in
-    (omega (arith, inv .2, peptides-read (now (c .before .before .before .before .before .before .before .before .before .before .args .file)), c .before .before .before .before .before .before .before .before .before .before .pre .0 .small, c .before .before .loop-test .taken), sym (c .before .begins-run .ensures) ∙ c .if1 .taken)
+    (omega (arith, inv .2, c .before .before .before .before .before .before .before .before .before .before .pre .0 .small, c .before .before .loop-test .taken), sym (c .before .begins-run .ensures) ∙ c .if1 .taken)
 
 cast-from : tie.Need-cast-from Inv-loop μ-loop
 cast-from c = omega (arith, room c, c .before .before .before .before .before .before .before .before .before .before .before .pre .0 .few)
@@ -143,7 +141,7 @@ append-runs-spec =
     (tie.spec
     Inv-loop
     μ-loop
-    number-at-requires
+    peptide-count-requires
     loop-holds
     add-p
     begins-run-requires

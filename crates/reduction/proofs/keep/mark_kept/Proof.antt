@@ -5,7 +5,6 @@ use mathlib.Core.Path.{_≡_, refl, sym, _∙_, subst}
 use native.Mathlib.Omega.{arith}
 use lib.ListN.{length, set, length-set}
 use Rattle.reader.specs.Family.{familyOf, regionCount}
-use Rattle.reader.proofs.Parsed.{regions-read}
 use Rattle.reduction.specs.Keeping.{NextStretch, Marked}
 use Rattle.reduction.proofs.Bounding.{marks-start, next-start, next-stretch, next-same, marks-more}
 use borrow.Author.Needs.{needs}
@@ -27,14 +26,14 @@ marks c =
     marks-more (pre .0) (c .before .before .loop .next) (c .before .before .loop .k) (c .before .loop-test .taken) (inv .0) (inv .2) _ _ _ (c .before .before .loop .kept) _ (pre .1 .0) (pre .1 .1 .0)
     (omega (arith, c .before .before .before .before .before .before .before .before .before .shared-slice-known2 .given (c .before .before .loop .k - 1))) (omega (arith, inv .0, inv .1, pre .1 .1 .1)) (inv .3) (c .kept-bound .ensures)
 
-number-at-requires : tie.Need-number-at-requires Inv-loop μ-loop
-number-at-requires c κs = search needs
+region-count-requires : tie.Need-region-count-requires Inv-loop μ-loop
+region-count-requires c κs = search needs
 
 loop-holds : tie.Need-loop-holds Inv-loop μ-loop
 loop-holds c =
     let s = now (c .before .before .before .before .before .before .before .before .args .file) in
-    let k : regionCount (familyOf s) ≡ c .number-at .result = regions-read s ∙ sym (c .number-at .ensures) in
-    (omega arith, refl, next-start (familyOf s) (c .number-at .result) (omega arith), marks-start (familyOf s) _ (c .number-at .result) (omega arith))
+    let read = c .region-count .ensures in
+    (omega arith, refl, next-start (familyOf s) (c .region-count .result) (omega arith), marks-start (familyOf s) _ (c .region-count .result) (omega arith))
 
 sub-k : tie.Need-sub-k Inv-loop μ-loop
 sub-k c = search needs
@@ -97,7 +96,7 @@ mark-kept-spec =
     (tie.spec
     Inv-loop
     μ-loop
-    number-at-requires
+    region-count-requires
     loop-holds
     sub-k
     kept-bound-requires

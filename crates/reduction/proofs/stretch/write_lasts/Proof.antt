@@ -4,9 +4,8 @@ use native.Mathlib.Omega.{arith}
 use mathlib.Core.Path.{_≡_, refl}
 use lib.ListN.{length, getD, length-set}
 use denote.Ref.{now}
-use Rattle.reader.specs.Bytes.{numberAt}
 use Rattle.reader.specs.Family.{familyOf, region, regionCount}
-use Rattle.reader.proofs.Parsed.{regions-read, held-z}
+use Rattle.reader.proofs.Parsed.{held-z}
 use Rattle.reduction.specs.Steps.{lastLive}
 use Rattle.reduction.specs.Passes.{range, LastsUpTo}
 use Rattle.reduction.proofs.OpenRegions.{more-stored}
@@ -18,25 +17,25 @@ use Rattle.reduction.proofs.stretch.write_lasts.Tie as tie
 
 abbrev Inv-loop : tie.InvT-loop
 Inv-loop file lows highs before lasts₀ regions k₀ lasts k =
-    (k ≤ regions) × (regions ≡ numberAt file 8) × (length lasts ≡ length lasts₀) × LastsUpTo (familyOf file) k lasts
+    (k ≤ regions) × (regions ≡ regionCount (familyOf file)) × (length lasts ≡ length lasts₀) × LastsUpTo (familyOf file) k lasts
 
 abbrev μ-loop : tie.MeasureT-loop
 μ-loop file lows highs before lasts₀ regions k₀ lasts k = regions - k
 
 -- the loop is at a region
 here : (c : tie.In-loop Inv-loop μ-loop) → c .before .loop .k < regionCount (familyOf (now (c .before .before .before .before .before .before .before .before .args .file)))
-here c = omega (arith, regions-read (now (c .before .before .before .before .before .before .before .before .args .file)), c .loop-test .taken, c .before .loop .inv .1)
+here c = omega (arith, c .loop-test .taken, c .before .loop .inv .1)
 
 -- its high end is one of the places 0 to m
 high-place : (c : tie.In-loop Inv-loop μ-loop) → getD (now (c .before .before .before .before .before .before .before .before .args .highs)) (c .before .loop .k) 0 ≤ familyOf (now (c .before .before .before .before .before .before .before .before .args .file)) .peptides
 high-place c =
     let pre = c .before .before .before .before .before .before .before .before .pre .ended in omega (arith, pre .ends .high (c .before .loop .k) (here c), high-small _ (pre .formed) (c .before .loop .k) (here c))
 
-number-at-requires : tie.Need-number-at-requires Inv-loop μ-loop
-number-at-requires c κs = search needs
+region-count-requires : tie.Need-region-count-requires Inv-loop μ-loop
+region-count-requires c κs = search needs
 
 loop-holds : tie.Need-loop-holds Inv-loop μ-loop
-loop-holds c = (omega arith, c .number-at .ensures, refl, λ i l. absurd (omega arith))
+loop-holds c = (omega arith, c .region-count .ensures, refl, λ i l. absurd (omega arith))
 
 region-of-requires : tie.Need-region-of-requires Inv-loop μ-loop
 region-of-requires c κs = search needs
@@ -81,7 +80,7 @@ slice-write-lasts : tie.Need-slice-write-lasts Inv-loop μ-loop
 slice-write-lasts c = omega (arith, here (c .before .before .before .before .before), c .before .before .before .before .before .before .before .before .before .before .before .before .before .pre .room, c .before .before .before .before .before .before .loop .inv .2)
 
 add-k : tie.Need-add-k Inv-loop μ-loop
-add-k c = omega (arith, c .before .before .before .before .before .before .before .number-at .ok, c .before .before .before .before .before .loop-test .taken)
+add-k c = omega (arith, c .before .before .before .before .before .before .before .region-count .ok, c .before .before .before .before .before .loop-test .taken)
 
 loop-less : tie.Need-loop-less Inv-loop μ-loop
 loop-less c = search needs
@@ -104,7 +103,7 @@ same-length : tie.Need-same-length Inv-loop μ-loop
 same-length c = search needs
 
 returns : tie.Need-returns Inv-loop μ-loop
-returns c i l = c .before .loop .inv .3 i (omega (arith, regions-read (now (c .before .before .before .before .before .before .before .before .args .file)), c .loop-test .left, c .before .loop .inv .1))
+returns c i l = c .before .loop .inv .3 i (omega (arith, c .loop-test .left, c .before .loop .inv .1))
 
 pub write-lasts-spec : {M : Type 1} → statement M
 write-lasts-spec =
@@ -112,7 +111,7 @@ write-lasts-spec =
     (tie.spec
     Inv-loop
     μ-loop
-    number-at-requires
+    region-count-requires
     loop-holds
     region-of-requires
     cast-low

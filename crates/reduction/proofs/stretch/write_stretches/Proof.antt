@@ -1,24 +1,23 @@
 -- The nearest live peptides from the live bytes, and what is written with them.
 use Prim.Native.Nat.{_≤_, _-_}
 use native.Mathlib.Omega.{arith}
-use mathlib.Core.Path.{_≡_, sym, _∙_}
+use mathlib.Core.Path.{_≡_}
 use denote.Ref.{now}
 use Rattle.reader.specs.Family.{familyOf}
-use Rattle.reader.proofs.Parsed.{peptides-read}
 use Rattle.reduction.proofs.NearestLive.{nexts-live, lasts-live}
 use borrow.Author.Needs.{needs}
 use Rattle.reduction.proofs.stretch.write_stretches.Statement.{statement}
 use Rattle.reduction.proofs.stretch.write_stretches.Tie as tie
 
 -- the number that is read is m
-m-read : (c : tie.After-number-at) → c .number-at .result ≡ familyOf (now (c .before .before .before .before .before .before .before .args .file)) .peptides
-m-read c = c .number-at .ensures ∙ sym (peptides-read (now (c .before .before .before .before .before .before .before .args .file)))
+m-read : (c : tie.After-peptide-count) → c .peptide-count .result ≡ familyOf (now (c .before .before .before .before .before .before .before .args .file)) .peptides
+m-read c = c .peptide-count .ensures
 
-m-small : (c : tie.After-number-at) → c .number-at .result ≤ 4096
+m-small : (c : tie.After-peptide-count) → c .peptide-count .result ≤ 4096
 m-small c = omega (arith, m-read c, c .before .before .before .before .before .before .before .pre .0 .ended .formed .peptides-most)
 
-number-at-requires : tie.Need-number-at-requires
-number-at-requires c κs = search needs
+peptide-count-requires : tie.Need-peptide-count-requires
+peptide-count-requires c κs = search needs
 
 slice-aggregate-fill-after : tie.Need-slice-aggregate-fill-after
 slice-aggregate-fill-after c = search needs
@@ -71,7 +70,7 @@ pub write-stretches-spec : {M : Type 1} → statement M
 write-stretches-spec =
     tie.close
     (tie.spec
-    number-at-requires
+    peptide-count-requires
     slice-aggregate-fill-after
     fill-after-requires
     slice-aggregate-write-firsts
