@@ -1,5 +1,6 @@
 // The kept stretches of a family and, with the longest runs of dead peptides, the list of the reduced ranges.
 use reader::bytes::smaller;
+use reader::family::Peptide;
 use reader::family::peptide_count;
 use reader::family::region_count;
 use reader::family::region_of;
@@ -171,9 +172,10 @@ fn mark_kept(
 }
 
 // Whether a peptide is live; none is at 0 or past the end.
-fn is_live(live: &[u8], p: u16) -> bool
-    ensures { λ r. ⌜ r ≡ selected (now (live .entry)) p ⌝ }
+fn is_live(live: &[u8], peptide: Peptide) -> bool
+    ensures { λ r. ⌜ r ≡ selected (now (live .entry)) (peptide .0) ⌝ }
 {
+    let p = peptide.0;
     if p == 0 {
         return false;
     }
@@ -181,58 +183,65 @@ fn is_live(live: &[u8], p: u16) -> bool
     if i < live.len() { live[i] == 1 } else { false }
 }
 
-// Whether a longest run of dead peptides begins at p.
-fn begins_run(live: &[u8], p: u16) -> bool
-    ensures { λ r. ⌜ r ≡ beginsRun (selected (now (live .entry))) p ⌝ }
+// Whether a longest run of dead peptides begins at the peptide.
+fn begins_run(live: &[u8], peptide: Peptide) -> bool
+    ensures { λ r. ⌜ r ≡ beginsRun (selected (now (live .entry))) (peptide .0) ⌝ }
 {
-    if is_live(live, p) {
+    if is_live(live, peptide) {
         return false;
     }
-    if p <= 1 { p == 1 } else { is_live(live, p - 1) }
-}
-
-// The last peptide of the run that begins at p.
-fn run_end(live: &[u8], p: u16, peptides: u16) -> u16
-    requires { ⌜ p ≤ peptides ⌝ }
-    requires { ⌜ beginsRun (selected (now live)) p ≡ true ⌝ }
-    ensures { λ r. ⌜ RunTo peptides (selected (now (live .entry))) p r ⌝ }
-{
-    let mut last = p;
-    while last < peptides {
-        if is_live(live, last + 1) {
-            return last;
-        }
-        last += 1;
+    let p = peptide.0;
+    if p <= 1 {
+        p == 1
+    } else {
+        is_live(live, Peptide(p - 1))
     }
-    last
 }
 
-// Lists the runs that begin from `begin` on, before `end`, after the `count` ranges listed so far; returns how many there
-// are then. It holds for any choice of stretches listed so far, as long as these begin before `begin`.
+// The last peptide of the run that begins at the first.
+fn run_end(live: &[u8], first: Peptide, peptides: u16) -> Peptide
+    requires { ⌜ first .0 ≤ peptides ⌝ }
+    requires { ⌜ beginsRun (selected (now live)) (first .0) ≡ true ⌝ }
+    ensures { λ r. ⌜ RunTo peptides (selected (now (live .entry))) (first .0) (r .0) ⌝ }
+{
+    let mut last = first.0;
+    while last < peptides {
+        let next = last + 1;
+        if is_live(live, Peptide(next)) {
+            return Peptide(last);
+        }
+        last = next;
+    }
+    Peptide(last)
+}
+
+// Lists the runs that begin after the first peptide named, and up to the second, after the `count` ranges listed so far;
+// returns how many there are then. It holds for any choice of stretches listed so far, if these begin no later than the
+// first peptide named.
 fn append_runs(
     file: &[u8],
     live: &[u8],
-    begin: u16,
-    end: u16,
+    after: Peptide,
+    upto: Peptide,
     from: &mut [u16],
     to: &mut [u16],
     bounds: &mut [u16],
     count: u16,
 ) -> u16
-    requires { ⌜ RunsAhead (familyOf (now file)) (now live) begin end (now from) (now to) (now bounds) ⌝ }
-    requires { ⌜ Somehow (familyOf (now file)) begin count (now from) (now to) (now bounds) ⌝ }
-    ensures { λ r. ⌜ ((t : Range → Bool) → Gathered (familyOf (now (file .entry))) t begin count (now (from .entry)) (now (to .entry)) (now (bounds .entry)) → Gathered (familyOf (now (file .entry))) t end r (now (from .exit)) (now (to .exit)) (now (bounds .exit))) ⌝ }
+    requires { ⌜ RunsAhead (familyOf (now file)) (now live) (after .0 + 1) (upto .0 + 1) (now from) (now to) (now bounds) ⌝ }
+    requires { ⌜ Somehow (familyOf (now file)) (after .0 + 1) count (now from) (now to) (now bounds) ⌝ }
+    ensures { λ r. ⌜ ((t : Range → Bool) → Gathered (familyOf (now (file .entry))) t (after .0 + 1) count (now (from .entry)) (now (to .entry)) (now (bounds .entry)) → Gathered (familyOf (now (file .entry))) t (upto .0 + 1) r (now (from .exit)) (now (to .exit)) (now (bounds .exit))) ⌝ }
 {
     let peptides = peptide_count(file);
+    let end = upto.0;
     let mut n = count;
-    let mut p = begin;
+    let mut p = after.0;
     while p < end {
-        let first = p;
         p += 1;
-        if begins_run(live, first) {
-            let last = run_end(live, first, peptides);
-            from[n as usize] = first;
-            to[n as usize] = last;
+        if begins_run(live, Peptide(p)) {
+            let last = run_end(live, Peptide(p), peptides);
+            from[n as usize] = p;
+            to[n as usize] = last.0;
             bounds[n as usize] = 0;
             n += 1;
         }
@@ -260,24 +269,24 @@ fn gather(
     let peptides = peptide_count(file);
     let regions = region_count(file);
     let mut n = 0;
-    let mut next = 1;
+    let mut passed = Peptide(0);
     let mut k = 0;
     while k < regions {
         let here = k;
         k += 1;
         let z = nth(kept, here);
         if z != 0 {
-            let first = nth(firsts, here);
+            let first = Peptide(nth(firsts, here));
             let last = nth(lasts, here);
-            n = append_runs(file, live, next, first + 1, from, to, bounds, n);
-            from[n as usize] = first;
+            n = append_runs(file, live, passed, first, from, to, bounds, n);
+            from[n as usize] = first.0;
             to[n as usize] = last;
             bounds[n as usize] = z;
             n += 1;
-            next = first + 1;
+            passed = first;
         }
     }
-    append_runs(file, live, next, peptides + 1, from, to, bounds, n)
+    append_runs(file, live, passed, Peptide(peptides), from, to, bounds, n)
 }
 
 // The reduced ranges in file order: the first peptide, the last one and the bound of each; returns how many there are.

@@ -1,6 +1,7 @@
 // The live peptides, and the first and last live peptide of each region: passes over the leaves, the regions and
 // the peptides, each linear.
 use reader::family::Leaf;
+use reader::family::Peptide;
 use reader::family::leaf_count;
 use reader::family::leaf_length;
 use reader::family::peptide_count;
@@ -16,12 +17,14 @@ ghost use Rattle.bounds.specs.Selections.{selected};
 ghost use Rattle.reduction.specs.Steps.{Parented, Stretched};
 ghost use Rattle.reduction.specs.Passes.{Beginning, Began, Open, Ending, Known, Roomy, Ends, Ended, Marked, Reached, LiveUpTo, Spacious, Nexts, Lasts, WithNexts, WithLasts, WithLives, FirstsUpTo, LastsUpTo, Rooms};
 
-// Writes the low ends of the regions that begin at the leaf after the passed ones, which have `sum` peptides.
+// Writes the low ends of the regions that begin after the last leaf and the last peptide passed, 0 before the first.
 // The number of regions that have begun.
-fn begin_regions(file: &[u8], passed: u16, sum: u16, begun: u16, lows: &mut [u16]) -> u16
-    requires { ⌜ Beginning (familyOf (now file)) passed sum begun (now lows) ⌝ }
-    ensures { λ r. ⌜ Began (familyOf (now (file .entry))) (passed + 1) begun r (now (lows .exit)) ⌝ }
+fn begin_regions(file: &[u8], leaf: Leaf, peptide: Peptide, begun: u16, lows: &mut [u16]) -> u16
+    requires { ⌜ Beginning (familyOf (now file)) (leaf .0) (peptide .0) begun (now lows) ⌝ }
+    ensures { λ r. ⌜ Began (familyOf (now (file .entry))) (leaf .0 + 1) begun r (now (lows .exit)) ⌝ }
 {
+    let passed = leaf.0;
+    let low = peptide.0;
     let regions = region_count(file);
     let mut k = begun;
     while k < regions {
@@ -30,7 +33,7 @@ fn begin_regions(file: &[u8], passed: u16, sum: u16, begun: u16, lows: &mut [u16
         if first != passed + 1 {
             return k;
         }
-        lows[k as usize] = sum;
+        lows[k as usize] = low;
         k += 1;
     }
     k
@@ -43,27 +46,29 @@ fn innermost(before: u16, begun: u16, outer: u16) -> u16
     if before == begun { outer } else { begun }
 }
 
-// Writes the high ends of the regions that end at the leaf, up to which there are `sum` peptides: the innermost open
-// region, then its parents, since what is around an open region is open. The number of the innermost one that stays open.
+// Writes the high ends of the regions that end at the leaf, whose last peptide is known: the innermost open region,
+// then its parents, since what is around an open region is open. The number of the innermost one that stays open.
 fn end_regions(
     file: &[u8],
     parents: &[u16],
-    leaf: u16,
-    sum: u16,
+    leaf: Leaf,
+    peptide: Peptide,
     inner: u16,
     highs: &mut [u16],
 ) -> u16
-    requires { ⌜ Ending (familyOf (now file)) (now parents) leaf sum inner (now highs) ⌝ }
-    ensures { λ r. ⌜ Open (familyOf (now (file .entry))) leaf (leaf + 1) (now (highs .exit)) r ⌝ }
+    requires { ⌜ Ending (familyOf (now file)) (now parents) (leaf .0) (peptide .0) inner (now highs) ⌝ }
+    ensures { λ r. ⌜ Open (familyOf (now (file .entry))) (leaf .0) (leaf .0 + 1) (now (highs .exit)) r ⌝ }
 {
+    let end = leaf.0;
+    let high = peptide.0;
     let mut number = inner;
     while number != 0 {
         let r = region_of(file, number - 1);
         let last = r.last.0;
-        if last != leaf {
+        if last != end {
             return number;
         }
-        highs[(number - 1) as usize] = sum;
+        highs[(number - 1) as usize] = high;
         number = parents[(number - 1) as usize];
     }
     0
@@ -76,47 +81,52 @@ fn find_ends(file: &[u8], parents: &[u16], lows: &mut [u16], highs: &mut [u16])
     ensures { λ _. ⌜ Ends (familyOf (now (file .entry))) (now (lows .exit)) (now (highs .exit)) ⌝ }
 {
     let leaves = leaf_count(file);
-    let mut sum = 0;
+    let mut peptide = 0;
     let mut begun = 0;
     let mut inner = 0;
     let mut leaf = 0;
     while leaf < leaves {
-        let now_begun = begin_regions(file, leaf, sum, begun, lows);
+        let now_begun = begin_regions(file, Leaf(leaf), Peptide(peptide), begun, lows);
         inner = innermost(begun, now_begun, inner);
         leaf += 1;
-        sum += leaf_length(file, Leaf(leaf));
-        inner = end_regions(file, parents, leaf, sum, inner, highs);
+        peptide += leaf_length(file, Leaf(leaf));
+        inner = end_regions(file, parents, Leaf(leaf), Peptide(peptide), inner, highs);
         begun = now_begun;
     }
 }
 
-// 0 for a peptide among the first `until`, else 1.
-fn live_byte(p: u16, until: u16) -> u8
-    ensures { λ r. ⌜ r ≡ cond (ltb p until) 0 1 ⌝ }
+// 0 if the dead peptides reach beyond the one passed, else 1: the live byte of the next one.
+fn live_byte(passed: Peptide, until: Peptide) -> u8
+    ensures { λ r. ⌜ r ≡ cond (ltb (passed .0) (until .0)) 0 1 ⌝ }
 {
-    if p < until { 0 } else { 1 }
+    let p = passed.0;
+    let dead = until.0;
+    if p < dead { 0 } else { 1 }
 }
 
-// Writes the live bytes from one place to another, where the peptides among the first `until` are dead.
-fn mark_live(live: &mut [u8], from: u16, to: u16, until: u16)
-    requires { ⌜ to ≤ length (now live) ⌝ }
-    ensures { λ _. ⌜ Marked (now (live .entry)) (now (live .exit)) from to until ⌝ }
+// Writes the live bytes of the peptides after the first one named, and up to the second. Those up to `until` are dead.
+fn mark_live(live: &mut [u8], after: Peptide, upto: Peptide, until: Peptide)
+    requires { ⌜ upto .0 ≤ length (now live) ⌝ }
+    ensures { λ _. ⌜ Marked (now (live .entry)) (now (live .exit)) (after .0) (upto .0) (until .0) ⌝ }
 {
-    let mut p = from;
-    while p < to {
-        live[p as usize] = live_byte(p, until);
+    let end = upto.0;
+    let mut p = after.0;
+    while p < end {
+        live[p as usize] = live_byte(Peptide(p), until);
         p += 1;
     }
 }
 
 // How far the dead peptides reach with one region more: further if its z is 0 and it ends later.
-fn dead_until(z: u16, high: u16, until: u16) -> u16
-    ensures { λ r. ⌜ Reached z high until r ⌝ }
+fn dead_until(z: u16, high: Peptide, until: Peptide) -> Peptide
+    ensures { λ r. ⌜ Reached z (high .0) (until .0) (r .0) ⌝ }
 {
     if z != 0 {
         return until;
     }
-    if until < high { high } else { until }
+    let dead = until.0;
+    let end = high.0;
+    if dead < end { high } else { until }
 }
 
 // The live peptides. The regions begin in rising order, so what is before the next one's first peptide is settled.
@@ -126,28 +136,30 @@ fn find_live(file: &[u8], lows: &[u16], highs: &[u16], live: &mut [u8])
     ensures { λ _. ⌜ LiveUpTo (familyOf (now (file .entry))) (familyOf (now (file .entry)) .peptides) (now (live .exit)) ⌝ }
 {
     let regions = region_count(file);
-    let mut settled = 0;
-    let mut until = 0;
+    let mut settled = Peptide(0);
+    let mut until = Peptide(0);
     let mut k = 0;
     while k < regions {
         let low = lows[k as usize];
-        mark_live(live, settled, low, until);
-        settled = low;
+        mark_live(live, settled, Peptide(low), until);
+        settled = Peptide(low);
         let r = region_of(file, k);
-        until = dead_until(r.z, highs[k as usize], until);
+        let high = highs[k as usize];
+        until = dead_until(r.z, Peptide(high), until);
         k += 1;
     }
-    mark_live(live, settled, peptide_count(file), until);
+    mark_live(live, settled, Peptide(peptide_count(file)), until);
 }
 
 // The peptide if it is live, else the other one.
-fn live_or(live: &[u8], p: u16, other: u16) -> u16
-    requires { ⌜ 1 ≤ p ⌝ }
-    requires { ⌜ p ≤ length (now live) ⌝ }
-    ensures { λ r. ⌜ r ≡ cond (selected (now (live .entry)) p) p other ⌝ }
+fn live_or(live: &[u8], peptide: Peptide, other: Peptide) -> Peptide
+    requires { ⌜ 1 ≤ peptide .0 ⌝ }
+    requires { ⌜ peptide .0 ≤ length (now live) ⌝ }
+    ensures { λ r. ⌜ r .0 ≡ cond (selected (now (live .entry)) (peptide .0)) (peptide .0) (other .0) ⌝ }
 {
+    let p = peptide.0;
     if live[(p - 1) as usize] == 1 {
-        p
+        peptide
     } else {
         other
     }
@@ -158,13 +170,13 @@ fn fill_before(live: &[u8], m: u16, before: &mut [u16])
     requires { ⌜ Spacious m (now live) (now before) ⌝ }
     ensures { λ _. ⌜ Lasts m (selected (now (live .entry))) (now (before .exit)) ⌝ }
 {
-    let mut last = 0;
+    let mut last = Peptide(0);
     let mut p = 0;
     before[0] = 0;
     while p < m {
         p += 1;
-        last = live_or(live, p, last);
-        before[p as usize] = last;
+        last = live_or(live, Peptide(p), last);
+        before[p as usize] = last.0;
     }
 }
 
@@ -173,34 +185,38 @@ fn fill_after(live: &[u8], m: u16, after: &mut [u16])
     requires { ⌜ Spacious m (now live) (now after) ⌝ }
     ensures { λ _. ⌜ Nexts m (selected (now (live .entry))) (now (after .exit)) ⌝ }
 {
-    let mut next = 0;
+    let mut next = Peptide(0);
     let mut p = m;
     after[(m + 1) as usize] = 0;
     while p != 0 {
-        next = live_or(live, p, next);
-        after[p as usize] = next;
+        next = live_or(live, Peptide(p), next);
+        after[p as usize] = next.0;
         p -= 1;
     }
 }
 
 // The first live peptide of a region, given the first one after its low end.
-fn first_within(z: u16, high: u16, next: u16) -> u16
-    ensures { λ r. ⌜ r ≡ cond (eqb z 0) 0 (cond (leb next high) next 0) ⌝ }
+fn first_within(z: u16, high: Peptide, next: Peptide) -> Peptide
+    ensures { λ r. ⌜ r .0 ≡ cond (eqb z 0) 0 (cond (leb (next .0) (high .0)) (next .0) 0) ⌝ }
 {
     if z == 0 {
-        return 0;
+        return Peptide(0);
     }
-    if next <= high { next } else { 0 }
+    let first = next.0;
+    let end = high.0;
+    if first <= end { next } else { Peptide(0) }
 }
 
 // The last live peptide of a region, given the last one up to its high end.
-fn last_within(z: u16, low: u16, last: u16) -> u16
-    ensures { λ r. ⌜ r ≡ cond (eqb z 0) 0 (cond (ltb low last) last 0) ⌝ }
+fn last_within(z: u16, low: Peptide, last: Peptide) -> Peptide
+    ensures { λ r. ⌜ r .0 ≡ cond (eqb z 0) 0 (cond (ltb (low .0) (last .0)) (last .0) 0) ⌝ }
 {
     if z == 0 {
-        return 0;
+        return Peptide(0);
     }
-    if low < last { last } else { 0 }
+    let passed = low.0;
+    let end = last.0;
+    if passed < end { last } else { Peptide(0) }
 }
 
 // The first live peptide of each region.
@@ -214,7 +230,9 @@ fn write_firsts(file: &[u8], lows: &[u16], highs: &[u16], after: &[u16], firsts:
         let r = region_of(file, k);
         let low = lows[k as usize];
         let high = highs[k as usize];
-        firsts[k as usize] = first_within(r.z, high, after[(low + 1) as usize]);
+        let nearest = after[(low + 1) as usize];
+        let first = first_within(r.z, Peptide(high), Peptide(nearest));
+        firsts[k as usize] = first.0;
         k += 1;
     }
 }
@@ -230,7 +248,9 @@ fn write_lasts(file: &[u8], lows: &[u16], highs: &[u16], before: &[u16], lasts: 
         let r = region_of(file, k);
         let low = lows[k as usize];
         let high = highs[k as usize];
-        lasts[k as usize] = last_within(r.z, low, before[high as usize]);
+        let nearest = before[high as usize];
+        let last = last_within(r.z, Peptide(low), Peptide(nearest));
+        lasts[k as usize] = last.0;
         k += 1;
     }
 }

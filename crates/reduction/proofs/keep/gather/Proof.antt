@@ -1,4 +1,4 @@
--- The loop has listed the kept stretches of the first k regions and the runs that begin before `next`.
+-- The loop has listed the kept stretches of the first k regions and the runs that begin up to the last peptide passed.
 use denote.Ref.{now}
 use Prim.Native.Nat.{_+_, _-_, _≤_, _<_}
 use mathlib.Core.Path.{_≡_, refl, sym, _∙_}
@@ -12,13 +12,13 @@ use Rattle.reduction.proofs.keep.gather.Statement.{statement}
 use Rattle.reduction.proofs.keep.gather.Tie as tie
 
 abbrev Inv-loop : tie.InvT-loop
-Inv-loop file live firsts lasts kept from₀ to₀ bounds₀ peptides regions n₀ next₀ k₀ from to bounds n next k =
+Inv-loop file live firsts lasts kept from₀ to₀ bounds₀ peptides regions n₀ passed₀ k₀ from to bounds n passed k =
     (k ≤ regions) × (peptides ≡ familyOf file .peptides) × (regions ≡ regionCount (familyOf file))
     × (length from ≡ length from₀) × (length to ≡ length to₀) × (length bounds ≡ length bounds₀)
-    × Passed (familyOf file) kept k next × Gathered (familyOf file) (ofFirst (familyOf file) kept k) next n from to bounds
+    × Passed (familyOf file) kept k (passed .0 + 1) × Gathered (familyOf file) (ofFirst (familyOf file) kept k) (passed .0 + 1) n from to bounds
 
 abbrev μ-loop : tie.MeasureT-loop
-μ-loop file live firsts lasts kept from₀ to₀ bounds₀ peptides regions n₀ next₀ k₀ from to bounds n next k = regions - k
+μ-loop file live firsts lasts kept from₀ to₀ bounds₀ peptides regions n₀ passed₀ k₀ from to bounds n passed k = regions - k
 
 here : (c : tie.In-loop Inv-loop μ-loop) → c .before .loop .k < regionCount (familyOf (now (c .before .before .before .before .before .before .before .before .before .before .before .before .args .file)))
 here c = omega (arith, c .loop-test .taken, c .before .loop .inv .2)
@@ -73,9 +73,6 @@ nth-requires-2 c κs = search needs
 nth-requires-3 : tie.Need-nth-requires-3 Inv-loop μ-loop
 nth-requires-3 c κs = search needs
 
-add-append-runs : tie.Need-add-append-runs Inv-loop μ-loop
-add-append-runs c = omega (arith, passed-it c .small, c .before .before .before .before .before .before .before .before .before .before .before .before .before .before .before .before .pre .0 .wellFormed .peptides-most)
-
 append-runs-requires : tie.Need-append-runs-requires Inv-loop μ-loop
 append-runs-requires c κs =
     let pre = c .before .before .before .before .before .before .before .before .before .before .before .before .before .before .before .before .before .before .before .pre in
@@ -125,9 +122,6 @@ slice-write-bounds c = omega (arith, room (c .before .before .before .before .be
 add-n : tie.Need-add-n Inv-loop μ-loop
 add-n c = omega (arith, room (c .before .before .before .before .before .before), c .before .before .before .before .before .before .before .before .before .before .before .before .before .before .before .before .before .before .before .before .before .before .before .before .before .before .pre .1 .1 .few)
 
-add-next : tie.Need-add-next Inv-loop μ-loop
-add-next c = omega (arith, passed-it (c .before .before .before .before .before .before .before .before .before .before) .small, c .before .before .before .before .before .before .before .before .before .before .before .before .before .before .before .before .before .before .before .before .before .before .before .before .before .before .pre .0 .wellFormed .peptides-most)
-
 loop-less : tie.Need-loop-less Inv-loop μ-loop
 loop-less c = omega (arith, c .before .before .before .before .before .before .before .before .before .before .before .before .before .before .loop-test .taken)
 
@@ -168,13 +162,9 @@ loop-again-2 c =
       inv .3,
       inv .4,
       inv .5,
-      passed-skip (pre .0 .wellFormed) C (pre .1 .0) k (c .before .before .before .loop .next) (inv .6),
-      skip-region (pre .0 .wellFormed) C (pre .1 .0) k (c .before .before .before .loop .next) (c .before .before .before .loop .n) _ _ _ (here (c .before .before)) (inv .7) (sym (c .before .nth .ensures) ∙ c .if1 .left),
+      passed-skip (pre .0 .wellFormed) C (pre .1 .0) k (c .before .before .before .loop .passed .0 + 1) (inv .6),
+      skip-region (pre .0 .wellFormed) C (pre .1 .0) k (c .before .before .before .loop .passed .0 + 1) (c .before .before .before .loop .n) _ _ _ (here (c .before .before)) (inv .7) (sym (c .before .nth .ensures) ∙ c .if1 .left),
     )
-
-add-append-runs-2 : tie.Need-add-append-runs-2 Inv-loop μ-loop
-add-append-runs-2 c =
-    omega (arith, c .before .loop .inv .1, c .before .before .before .before .before .before .before .before .before .before .before .before .pre .0 .wellFormed .peptides-most)
 
 append-runs-requires-2 : tie.Need-append-runs-requires-2 Inv-loop μ-loop
 append-runs-requires-2 c κs =
@@ -227,7 +217,6 @@ gather-spec =
     nth-requires
     nth-requires-2
     nth-requires-3
-    add-append-runs
     append-runs-requires
     cast-from
     mul-from
@@ -239,12 +228,10 @@ gather-spec =
     mul-bounds
     slice-write-bounds
     add-n
-    add-next
     loop-less
     loop-again
     loop-less-2
     loop-again-2
-    add-append-runs-2
     append-runs-requires-2
     same-length
     same-length-2

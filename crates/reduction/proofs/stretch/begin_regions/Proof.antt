@@ -12,11 +12,11 @@ use Rattle.reduction.proofs.stretch.begin_regions.Statement.{statement}
 use Rattle.reduction.proofs.stretch.begin_regions.Tie as tie
 
 abbrev Inv-loop : tie.InvT-loop
-Inv-loop file passed sum begun lows₀ regions k₀ lows k =
+Inv-loop file begun lows₀ passed low regions k₀ lows k =
     (k ≤ regions) × (regions ≡ regionCount (familyOf file)) × (length lows ≡ length lows₀) × (begun ≤ k) × Lowered (familyOf file) (passed + 1) k lows
 
 abbrev μ-loop : tie.MeasureT-loop
-μ-loop file passed sum begun lows₀ regions k₀ lows k = regions - k
+μ-loop file begun lows₀ passed low regions k₀ lows k = regions - k
 
 region-count-requires : tie.Need-region-count-requires Inv-loop μ-loop
 region-count-requires c κs = search needs
@@ -40,7 +40,7 @@ returns c =
     let pre = c .before .before .before .before .before .before .before .pre in
     let inv = c .before .before .before .loop .inv in
     record {
-      begun = all-begun _ (pre .formed) (c .before .before .before .before .before .before .before .args .passed) (c .before .before .before .before .before .before .before .args .begun) (c .before .before .before .loop .k) _ _ (pre .begun) (inv .3) (inv .4) (λ l e. c .if1 .taken (held-first _ _ (c .before .region-of .ensures) ∙ e));
+      begun = all-begun _ (pre .formed) (c .before .before .before .before .before .before .before .args .leaf .0) (c .before .before .before .before .before .before .before .args .begun) (c .before .before .before .loop .k) _ _ (pre .begun) (inv .3) (inv .4) (λ l e. c .if1 .taken (held-first _ _ (c .before .region-of .ensures) ∙ e));
       more = inv .3;
     }
 
@@ -68,7 +68,7 @@ loop-again c =
       inv .1,
       simp length-set (inv .2),
       omega arith,
-      one-begins _ (pre .formed) (c .before .before .before .before .before .before .before .args .passed) (c .before .before .before .loop .k) (c .before .before .before .before .before .before .before .args .sum) (c .before .before .before .loop .lows) (omega arith) (omega (arith, pre .room)) (sym (held-first _ _ (c .before .region-of .ensures)) ∙ c .if1 .left) (pre .sums) (inv .4),
+      one-begins _ (pre .formed) (c .before .before .before .before .before .before .before .args .leaf .0) (c .before .before .before .loop .k) (c .before .before .before .before .before .before .before .args .peptide .0) (c .before .before .before .loop .lows) (omega arith) (omega (arith, pre .room)) (sym (held-first _ _ (c .before .region-of .ensures)) ∙ c .if1 .left) (pre .sums) (inv .4),
     )
 
 same-length-2 : tie.Need-same-length-2 Inv-loop μ-loop
@@ -79,7 +79,7 @@ returns-2 c =
     let pre = c .before .before .before .before .before .pre in
     let inv = c .before .loop .inv in
     record {
-      begun = all-begun _ (pre .formed) (c .before .before .before .before .before .args .passed) (c .before .before .before .before .before .args .begun) (c .before .loop .k) _ _ (pre .begun) (inv .3) (inv .4) (λ l e. omega (arith, c .loop-test .left));
+      begun = all-begun _ (pre .formed) (c .before .before .before .before .before .args .leaf .0) (c .before .before .before .before .before .args .begun) (c .before .loop .k) _ _ (pre .begun) (inv .3) (inv .4) (λ l e. omega (arith, c .loop-test .left));
       more = inv .3;
     }
 

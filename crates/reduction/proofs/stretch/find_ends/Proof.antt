@@ -13,20 +13,20 @@ use Rattle.reduction.proofs.stretch.find_ends.Statement.{statement}
 use Rattle.reduction.proofs.stretch.find_ends.Tie as tie
 
 abbrev Inv-loop : tie.InvT-loop
-Inv-loop file parents lows₀ highs₀ n sum₀ begun₀ inner₀ leaf₀ lows highs sum begun inner leaf =
+Inv-loop file parents lows₀ highs₀ n peptide₀ begun₀ inner₀ leaf₀ lows highs peptide begun inner leaf =
     (leaf ≤ n)
     × (n ≡ leaves (familyOf file))
     × (length lows ≡ length lows₀)
     × (length highs ≡ length highs₀)
-    × (sum ≡ peptidesUpTo (familyOf file) leaf)
+    × (peptide ≡ peptidesUpTo (familyOf file) leaf)
     × Begun (familyOf file) leaf begun lows
     × Open (familyOf file) leaf (leaf + 1) highs inner
 
 abbrev μ-loop : tie.MeasureT-loop
-μ-loop file parents lows₀ highs₀ n sum₀ begun₀ inner₀ leaf₀ lows highs sum begun inner leaf = n - leaf
+μ-loop file parents lows₀ highs₀ n peptide₀ begun₀ inner₀ leaf₀ lows highs peptide begun inner leaf = n - leaf
 
--- the sum with the length of the leaf
-sums : (c : tie.After-leaf-length Inv-loop μ-loop) → c .before .before .before .before .before .before .before .loop .sum + c .leaf-length .result ≡ peptidesUpTo (familyOf (now (c .before .before .before .before .before .before .before .before .before .before .before .before .before .args .file))) (c .before .before .before .before .before .before .before .loop .leaf + 1)
+-- the last peptide of the next leaf
+sums : (c : tie.After-leaf-length Inv-loop μ-loop) → c .before .before .before .before .before .before .before .loop .peptide + c .leaf-length .result ≡ peptidesUpTo (familyOf (now (c .before .before .before .before .before .before .before .before .before .before .before .before .before .args .file))) (c .before .before .before .before .before .before .before .loop .leaf + 1)
 sums c = omega (arith, c .before .before .before .before .before .before .before .loop .inv .4, c .leaf-length .ensures, next-leaf (familyOf (now (c .before .before .before .before .before .before .before .before .before .before .before .before .before .args .file))) (c .before .before .before .before .before .before .before .loop .leaf))
 
 leaf-count-requires : tie.Need-leaf-count-requires Inv-loop μ-loop
@@ -56,8 +56,8 @@ add-leaf c = omega (arith, c .before .before .before .before .before .before .be
 leaf-length-requires : tie.Need-leaf-length-requires Inv-loop μ-loop
 leaf-length-requires c κs = search needs
 
-add-sum : tie.Need-add-sum Inv-loop μ-loop
-add-sum c =
+add-peptide : tie.Need-add-peptide Inv-loop μ-loop
+add-peptide c =
     let w = c .before .before .before .before .before .before .before .before .before .before .before .before .before .pre .0 .formed in
     omega (arith, sums c, upTo-small _ w (c .before .before .before .before .before .before .before .loop .leaf + 1) (omega (arith, c .before .before .before .before .before .before .before .loop .inv .1, c .before .before .before .before .before .before .loop-test .taken)), w .peptides-most)
 
@@ -103,7 +103,7 @@ find-ends-spec =
     innermost-requires
     add-leaf
     leaf-length-requires
-    add-sum
+    add-peptide
     end-regions-requires
     loop-less
     loop-again

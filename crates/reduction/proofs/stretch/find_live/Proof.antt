@@ -13,7 +13,7 @@ use Rattle.reduction.proofs.stretch.find_live.Tie as tie
 
 abbrev Inv-loop : tie.InvT-loop
 Inv-loop file lows highs live₀ regions settled₀ until₀ k₀ live settled until k =
-    (k ≤ regions) × (regions ≡ regionCount (familyOf file)) × (length live ≡ length live₀) × Swept (familyOf file) k settled until live
+    (k ≤ regions) × (regions ≡ regionCount (familyOf file)) × (length live ≡ length live₀) × Swept (familyOf file) k (settled .0) (until .0) live
 
 abbrev μ-loop : tie.MeasureT-loop
 μ-loop file lows highs live₀ regions settled₀ until₀ k₀ live settled until k = regions - k
@@ -46,14 +46,14 @@ mark-live-requires c κs =
 region-of-requires : tie.Need-region-of-requires Inv-loop μ-loop
 region-of-requires c κs = search needs
 
-cast-dead-until : tie.Need-cast-dead-until Inv-loop μ-loop
-cast-dead-until c = search needs
+cast-high : tie.Need-cast-high Inv-loop μ-loop
+cast-high c = search needs
 
-mul-dead-until : tie.Need-mul-dead-until Inv-loop μ-loop
-mul-dead-until c = search needs
+mul-high : tie.Need-mul-high Inv-loop μ-loop
+mul-high c = search needs
 
-shared-slice-read-dead-until : tie.Need-shared-slice-read-dead-until Inv-loop μ-loop
-shared-slice-read-dead-until c = omega (arith, here (c .before .before .before .before .before .before .before), c .before .before .before .before .before .before .before .before .before .before .before .before .before .before .pre .0 .rooms .second)
+shared-slice-read-high : tie.Need-shared-slice-read-high Inv-loop μ-loop
+shared-slice-read-high c = omega (arith, here (c .before .before .before .before .before .before .before), c .before .before .before .before .before .before .before .before .before .before .before .before .before .before .pre .0 .rooms .second)
 
 dead-until-requires : tie.Need-dead-until-requires Inv-loop μ-loop
 dead-until-requires c κs = search needs
@@ -73,7 +73,7 @@ loop-again c =
       omega (arith, c .before .before .before .before .before .before .before .before .loop-test .taken),
       inv .1,
       omega (arith, c .before .before .before .before .before .mark-live .kept .0, inv .2),
-      swept-more _ (pre .formed) k (c .before .before .before .before .before .before .before .before .before .loop .settled) (c .before .before .before .before .before .before .before .before .before .loop .until) _ _ _ _ (c .before .before .before .before .before .before .before .before .before .loop .live) _ h (pre .ends .low k h) (pre .ends .high k h) (held-z _ _ (c .before .before .region-of .ensures)) (c .dead-until .ensures) (inv .3) (c .before .before .before .before .before .mark-live .ensures),
+      swept-more _ (pre .formed) k (c .before .before .before .before .before .before .before .before .before .loop .settled .0) (c .before .before .before .before .before .before .before .before .before .loop .until .0) _ _ _ _ (c .before .before .before .before .before .before .before .before .before .loop .live) _ h (pre .ends .low k h) (pre .ends .high k h) (held-z _ _ (c .before .before .region-of .ensures)) (c .dead-until .ensures) (inv .3) (c .before .before .before .before .before .mark-live .ensures),
     )
 
 peptide-count-requires : tie.Need-peptide-count-requires Inv-loop μ-loop
@@ -88,7 +88,7 @@ same-length c = c .before .before .mark-live2 .kept .0 ∙ c .before .before .be
 returns : tie.Need-returns Inv-loop μ-loop
 returns c =
     let inv = c .before .before .before .before .before .before .loop .inv in
-    all-swept _ (c .before .before .before .before .before .before .before .before .before .before .before .before .pre .0 .formed) (c .before .before .before .before .before .before .loop .k) (c .before .before .before .before .before .before .loop .settled) (c .before .before .before .before .before .before .loop .until) _ (c .before .before .before .before .before .before .loop .live) _ (omega (arith, inv .0, inv .1, c .before .before .before .before .before .loop-test .left)) (c .before .before .before .peptide-count .ensures) (inv .3) (c .before .before .mark-live2 .ensures)
+    all-swept _ (c .before .before .before .before .before .before .before .before .before .before .before .before .pre .0 .formed) (c .before .before .before .before .before .before .loop .k) (c .before .before .before .before .before .before .loop .settled .0) (c .before .before .before .before .before .before .loop .until .0) _ (c .before .before .before .before .before .before .loop .live) _ (omega (arith, inv .0, inv .1, c .before .before .before .before .before .loop-test .left)) (c .before .before .before .peptide-count .ensures) (inv .3) (c .before .before .mark-live2 .ensures)
 
 pub find-live-spec : {M : Type 1} → statement M
 find-live-spec =
@@ -103,9 +103,9 @@ find-live-spec =
     shared-slice-read-low
     mark-live-requires
     region-of-requires
-    cast-dead-until
-    mul-dead-until
-    shared-slice-read-dead-until
+    cast-high
+    mul-high
+    shared-slice-read-high
     dead-until-requires
     add-k
     loop-less

@@ -59,17 +59,17 @@ mul-high c = search needs
 shared-slice-read-high : tie.Need-shared-slice-read-high Inv-loop μ-loop
 shared-slice-read-high c = omega (arith, here (c .before .before .before), c .before .before .before .before .before .before .before .before .before .before .before .pre .ended .rooms .second)
 
-add-first-within : tie.Need-add-first-within Inv-loop μ-loop
-add-first-within c = omega (arith, low-small (c .before .before .before), c .before .before .before .before .before .before .before .before .before .before .before .pre .ended .formed .peptides-most)
+add-nearest : tie.Need-add-nearest Inv-loop μ-loop
+add-nearest c = omega (arith, low-small (c .before .before .before), c .before .before .before .before .before .before .before .before .before .before .before .pre .ended .formed .peptides-most)
 
-cast-first-within : tie.Need-cast-first-within Inv-loop μ-loop
-cast-first-within c = omega (arith, low-small (c .before .before .before), c .before .before .before .before .before .before .before .before .before .before .before .pre .ended .formed .peptides-most)
+cast-nearest : tie.Need-cast-nearest Inv-loop μ-loop
+cast-nearest c = omega (arith, low-small (c .before .before .before), c .before .before .before .before .before .before .before .before .before .before .before .pre .ended .formed .peptides-most)
 
-mul-first-within : tie.Need-mul-first-within Inv-loop μ-loop
-mul-first-within c = omega (arith, low-small (c .before .before .before), c .before .before .before .before .before .before .before .before .before .before .before .pre .ended .formed .peptides-most)
+mul-nearest : tie.Need-mul-nearest Inv-loop μ-loop
+mul-nearest c = omega (arith, low-small (c .before .before .before), c .before .before .before .before .before .before .before .before .before .before .before .pre .ended .formed .peptides-most)
 
-shared-slice-read-first-within : tie.Need-shared-slice-read-first-within Inv-loop μ-loop
-shared-slice-read-first-within c = omega (arith, low-small (c .before .before .before .before), c .before .before .before .before .before .before .before .before .before .before .before .before .pre .places)
+shared-slice-read-nearest : tie.Need-shared-slice-read-nearest Inv-loop μ-loop
+shared-slice-read-nearest c = omega (arith, low-small (c .before .before .before .before), c .before .before .before .before .before .before .before .before .before .before .before .before .pre .places)
 
 first-within-requires : tie.Need-first-within-requires Inv-loop μ-loop
 first-within-requires c κs = search needs
@@ -124,10 +124,10 @@ write-firsts-spec =
     cast-high
     mul-high
     shared-slice-read-high
-    add-first-within
-    cast-first-within
-    mul-first-within
-    shared-slice-read-first-within
+    add-nearest
+    cast-nearest
+    mul-nearest
+    shared-slice-read-nearest
     first-within-requires
     cast-firsts
     mul-firsts

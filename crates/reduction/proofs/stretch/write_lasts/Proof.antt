@@ -58,14 +58,14 @@ mul-high c = search needs
 shared-slice-read-high : tie.Need-shared-slice-read-high Inv-loop μ-loop
 shared-slice-read-high c = omega (arith, here (c .before .before .before), c .before .before .before .before .before .before .before .before .before .before .before .pre .ended .rooms .second)
 
-cast-last-within : tie.Need-cast-last-within Inv-loop μ-loop
-cast-last-within c = omega (arith, high-place (c .before .before .before), c .before .before .before .before .before .before .before .before .before .before .before .pre .ended .formed .peptides-most)
+cast-nearest : tie.Need-cast-nearest Inv-loop μ-loop
+cast-nearest c = omega (arith, high-place (c .before .before .before), c .before .before .before .before .before .before .before .before .before .before .before .pre .ended .formed .peptides-most)
 
-mul-last-within : tie.Need-mul-last-within Inv-loop μ-loop
-mul-last-within c = omega (arith, high-place (c .before .before .before), c .before .before .before .before .before .before .before .before .before .before .before .pre .ended .formed .peptides-most)
+mul-nearest : tie.Need-mul-nearest Inv-loop μ-loop
+mul-nearest c = omega (arith, high-place (c .before .before .before), c .before .before .before .before .before .before .before .before .before .before .before .pre .ended .formed .peptides-most)
 
-shared-slice-read-last-within : tie.Need-shared-slice-read-last-within Inv-loop μ-loop
-shared-slice-read-last-within c = omega (arith, high-place (c .before .before .before .before), c .before .before .before .before .before .before .before .before .before .before .before .before .pre .places)
+shared-slice-read-nearest : tie.Need-shared-slice-read-nearest Inv-loop μ-loop
+shared-slice-read-nearest c = omega (arith, high-place (c .before .before .before .before), c .before .before .before .before .before .before .before .before .before .before .before .before .pre .places)
 
 last-within-requires : tie.Need-last-within-requires Inv-loop μ-loop
 last-within-requires c κs = search needs
@@ -120,9 +120,9 @@ write-lasts-spec =
     cast-high
     mul-high
     shared-slice-read-high
-    cast-last-within
-    mul-last-within
-    shared-slice-read-last-within
+    cast-nearest
+    mul-nearest
+    shared-slice-read-nearest
     last-within-requires
     cast-lasts
     mul-lasts
