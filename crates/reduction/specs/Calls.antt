@@ -18,7 +18,7 @@ use Rattle.reduction.specs.declared.Compared.the-variants as compared
 -- The number and the values of each case of an answer.
 
 unfoldable pub reportReduced : ReducedFile → Report
-reportReduced (made.Written length regions) = record { number = 0; values = length ∷ regions ∷ [] }
+reportReduced (made.Written bytes regions) = record { number = 0; values = bytes ∷ regions ∷ [] }
 reportReduced (made.Refused n) = record { number = n; values = [] }
 
 -- yes is 1, no is 0

@@ -52,14 +52,14 @@ pub record Began (F : Family) (j before k : ℕ) (L : List ℕ) : Type 0 where
   pub more : before ≤ k
 
 -- a family with its parents
-pub record Known (F : Family) (P : List ℕ) : Type 0 where
+pub record WithParents (F : Family) (P : List ℕ) : Type 0 where
   pub formed : WellFormed F
   pub known : ParentsBelow F P (regionCount F)
   pub room : regionCount F ≤ length P
 
 -- what is known where the regions of leaf j end
 pub record Ending (F : Family) (P : List ℕ) (j sum c : ℕ) (H : List ℕ) : Type 0 where
-  pub family : Known F P
+  pub family : WithParents F P
   pub sums : sum ≡ peptidesUpTo F j
   pub opened : Open F j j H c
   pub room : regionCount F ≤ length H
@@ -83,7 +83,7 @@ pub record Ended (F : Family) (L H : List ℕ) : Type 0 where
 -- The live peptides, in one pass over the regions and the peptides.
 
 -- M is L with the bytes from one place to another written anew: 0 for the first `until` peptides, 1 for those after them
-pub record Marked (L M : List ℕ) (from to until : ℕ) : Type 0 where
+pub record LiveMarked (L M : List ℕ) (from to until : ℕ) : Type 0 where
   pub old : (p : ℕ) → p < from → getD M p 0 ≡ getD L p 0
   pub new : (p : ℕ) → from ≤ p → p < to → getD M p 0 ≡ cond (ltb p until) 0 1
 

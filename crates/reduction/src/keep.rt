@@ -14,7 +14,7 @@ ghost use Rattle.reader.specs.WellFormed.{ParentsBelow};
 ghost use Rattle.bounds.specs.Ranges.{Range};
 ghost use Rattle.bounds.specs.Selections.{selected};
 ghost use Rattle.reduction.specs.Steps.{Parented, Stretched, Totalled, Listed};
-ghost use Rattle.reduction.specs.Keeping.{Known, sameEnds, firstAt, Weighed, WeighedBelow, TotalsBelow, keptBound, Marked, beginsRun, RunTo, Gathered, RunsAhead, Somehow};
+ghost use Rattle.reduction.specs.Keeping.{WithStretches, sameEnds, firstAt, Weighed, WeighedBelow, TotalsBelow, keptBound, KeptMarked, beginsRun, RunTo, Gathered, RunsAhead, SomeGathered};
 
 // Going outward from a region: the smallest z of its stretch, and the smallest z of the other stretches. Where there is
 // no other, 65,535 stands for it: a kept z is less than its room, a 16-bit number, and so less than 65,535.
@@ -52,7 +52,7 @@ fn weigh_region(
     around: &[u16],
     k: u16,
 ) -> Weights
-    requires { ⌜ Known (familyOf (now file)) (now firsts) (now lasts) ⌝ }
+    requires { ⌜ WithStretches (familyOf (now file)) (now firsts) (now lasts) ⌝ }
     requires { ⌜ ParentsBelow (familyOf (now file)) (now parents) (regionCount (familyOf (now file))) ⌝ }
     requires { ⌜ WeighedBelow (familyOf (now file)) (now least) (now around) k ⌝ }
     requires { ⌜ k < regionCount (familyOf (now file)) ⌝ }
@@ -91,7 +91,7 @@ fn weigh(
     least: &mut [u16],
     around: &mut [u16],
 )
-    requires { ⌜ Known (familyOf (now file)) (now firsts) (now lasts) ⌝ }
+    requires { ⌜ WithStretches (familyOf (now file)) (now firsts) (now lasts) ⌝ }
     requires { ⌜ ParentsBelow (familyOf (now file)) (now parents) (regionCount (familyOf (now file))) ⌝ }
     requires { ⌜ regionCount (familyOf (now file)) ≤ length (now least) ⌝ }
     requires { ⌜ regionCount (familyOf (now file)) ≤ length (now around) ⌝ }
@@ -154,11 +154,11 @@ fn mark_kept(
     around: &[u16],
     kept: &mut [u16],
 )
-    requires { ⌜ Known (familyOf (now file)) (now firsts) (now lasts) ⌝ }
+    requires { ⌜ WithStretches (familyOf (now file)) (now firsts) (now lasts) ⌝ }
     requires { ⌜ TotalsBelow (familyOf (now file)) (now totals) ⌝ }
     requires { ⌜ WeighedBelow (familyOf (now file)) (now least) (now around) (regionCount (familyOf (now file))) ⌝ }
     requires { ⌜ regionCount (familyOf (now file)) ≤ length (now kept) ⌝ }
-    ensures { λ _. ⌜ Marked (familyOf (now (file .entry))) (now (kept .exit)) 0 ⌝ }
+    ensures { λ _. ⌜ KeptMarked (familyOf (now (file .entry))) (now (kept .exit)) 0 ⌝ }
 {
     let mut next = 0;
     let mut k = region_count(file);
@@ -229,7 +229,7 @@ fn append_runs(
     count: u16,
 ) -> u16
     requires { ⌜ RunsAhead (familyOf (now file)) (now live) (after .0 + 1) (upto .0 + 1) (now from) (now to) (now bounds) ⌝ }
-    requires { ⌜ Somehow (familyOf (now file)) (after .0 + 1) count (now from) (now to) (now bounds) ⌝ }
+    requires { ⌜ SomeGathered (familyOf (now file)) (after .0 + 1) count (now from) (now to) (now bounds) ⌝ }
     ensures { λ r. ⌜ ((t : Range → Bool) → Gathered (familyOf (now (file .entry))) t (after .0 + 1) count (now (from .entry)) (now (to .entry)) (now (bounds .entry)) → Gathered (familyOf (now (file .entry))) t (upto .0 + 1) r (now (from .exit)) (now (to .exit)) (now (bounds .exit))) ⌝ }
 {
     let peptides = peptide_count(file);
@@ -261,8 +261,8 @@ fn gather(
     to: &mut [u16],
     bounds: &mut [u16],
 ) -> u16
-    requires { ⌜ Known (familyOf (now file)) (now firsts) (now lasts) ⌝ }
-    requires { ⌜ Marked (familyOf (now file)) (now kept) 0 ⌝ }
+    requires { ⌜ WithStretches (familyOf (now file)) (now firsts) (now lasts) ⌝ }
+    requires { ⌜ KeptMarked (familyOf (now file)) (now kept) 0 ⌝ }
     requires { ⌜ RunsAhead (familyOf (now file)) (now live) 1 (familyOf (now file) .peptides + 1) (now from) (now to) (now bounds) ⌝ }
     ensures { λ r. ⌜ Listed (now (file .entry)) r (now (from .exit)) (now (to .exit)) (now (bounds .exit)) ⌝ }
 {

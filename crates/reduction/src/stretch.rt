@@ -15,7 +15,7 @@ ghost use lib.Dec.{eqb, leb, ltb};
 ghost use Rattle.reader.specs.Family.{familyOf, regionCount};
 ghost use Rattle.bounds.specs.Selections.{selected};
 ghost use Rattle.reduction.specs.Steps.{Parented, Stretched};
-ghost use Rattle.reduction.specs.Passes.{Beginning, Began, Open, Ending, Known, Roomy, Ends, Ended, Marked, Reached, LiveUpTo, Spacious, Nexts, Lasts, WithNexts, WithLasts, WithLives, FirstsUpTo, LastsUpTo, Rooms};
+ghost use Rattle.reduction.specs.Passes.{Beginning, Began, Open, Ending, WithParents, Roomy, Ends, Ended, LiveMarked, Reached, LiveUpTo, Spacious, Nexts, Lasts, WithNexts, WithLasts, WithLives, FirstsUpTo, LastsUpTo, Rooms};
 
 // Writes the low ends of the regions that begin after the last leaf and the last peptide passed, 0 before the first.
 // The number of regions that have begun.
@@ -76,7 +76,7 @@ fn end_regions(
 
 // The low and high ends of every region. Each begins and ends once, so the pass is linear in leaves and regions.
 fn find_ends(file: &[u8], parents: &[u16], lows: &mut [u16], highs: &mut [u16])
-    requires { ⌜ Known (familyOf (now file)) (now parents) ⌝ }
+    requires { ⌜ WithParents (familyOf (now file)) (now parents) ⌝ }
     requires { ⌜ Roomy (familyOf (now file)) (now lows) (now highs) ⌝ }
     ensures { λ _. ⌜ Ends (familyOf (now (file .entry))) (now (lows .exit)) (now (highs .exit)) ⌝ }
 {
@@ -107,7 +107,7 @@ fn live_byte(passed: Peptide, until: Peptide) -> u8
 // Writes the live bytes of the peptides after the first one named, and up to the second. Those up to `until` are dead.
 fn mark_live(live: &mut [u8], after: Peptide, upto: Peptide, until: Peptide)
     requires { ⌜ upto .0 ≤ length (now live) ⌝ }
-    ensures { λ _. ⌜ Marked (now (live .entry)) (now (live .exit)) (after .0) (upto .0) (until .0) ⌝ }
+    ensures { λ _. ⌜ LiveMarked (now (live .entry)) (now (live .exit)) (after .0) (upto .0) (until .0) ⌝ }
 {
     let end = upto.0;
     let mut p = after.0;

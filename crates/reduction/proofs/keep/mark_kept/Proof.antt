@@ -5,7 +5,7 @@ use mathlib.Core.Path.{_≡_, refl, sym, _∙_, subst}
 use native.Mathlib.Omega.{arith}
 use lib.ListN.{length, set, length-set}
 use Rattle.reader.specs.Family.{familyOf, regionCount}
-use Rattle.reduction.specs.Keeping.{NextStretch, Marked}
+use Rattle.reduction.specs.Keeping.{NextStretch, KeptMarked}
 use Rattle.reduction.proofs.Bounding.{marks-start, next-start, next-stretch, next-same, marks-more}
 use borrow.Author.Needs.{needs}
 use Rattle.reduction.proofs.keep.mark_kept.Statement.{statement}
@@ -13,13 +13,13 @@ use Rattle.reduction.proofs.keep.mark_kept.Tie as tie
 
 abbrev Inv-loop : tie.InvT-loop
 Inv-loop file totals firsts lasts least around kept₀ next₀ k₀ kept next k =
-    (k ≤ regionCount (familyOf file)) × (length kept ≡ length kept₀) × NextStretch (familyOf file) k next × Marked (familyOf file) kept k
+    (k ≤ regionCount (familyOf file)) × (length kept ≡ length kept₀) × NextStretch (familyOf file) k next × KeptMarked (familyOf file) kept k
 
 abbrev μ-loop : tie.MeasureT-loop
 μ-loop file totals firsts lasts least around kept₀ next₀ k₀ kept next k = k
 
 -- one region more is marked
-marks : (c : tie.After-kept-bound Inv-loop μ-loop) → Marked (familyOf (now (c .before .before .before .before .before .before .before .before .before .before .before .args .file))) (set (c .before .before .loop .kept) (c .before .before .loop .k - 1) (c .kept-bound .result)) (c .before .before .loop .k - 1)
+marks : (c : tie.After-kept-bound Inv-loop μ-loop) → KeptMarked (familyOf (now (c .before .before .before .before .before .before .before .before .before .before .before .args .file))) (set (c .before .before .loop .kept) (c .before .before .loop .k - 1) (c .kept-bound .result)) (c .before .before .loop .k - 1)
 marks c =
     let pre = c .before .before .before .before .before .before .before .before .before .before .before .pre in
     let inv = c .before .before .loop .inv in
@@ -88,7 +88,7 @@ same-length : tie.Need-same-length Inv-loop μ-loop
 same-length c = search needs
 
 returns : tie.Need-returns Inv-loop μ-loop
-returns c = subst (Marked _ _) (c .loop-test .left) (c .before .loop .inv .3)
+returns c = subst (KeptMarked _ _) (c .loop-test .left) (c .before .loop .inv .3)
 
 pub mark-kept-spec : {M : Type 1} → statement M
 mark-kept-spec =

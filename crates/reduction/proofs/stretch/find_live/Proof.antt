@@ -4,7 +4,7 @@ use native.Mathlib.Omega.{arith}
 use mathlib.Core.Path.{_≡_, refl, _∙_}
 use lib.ListN.{length}
 use denote.Ref.{now}
-use Rattle.reader.specs.Family.{familyOf, region, regionCount}
+use Rattle.reader.specs.Family.{familyOf, regionCount}
 use Rattle.reader.proofs.Parsed.{held-z}
 use Rattle.reduction.proofs.DeadPeptides.{low-high, high-small, Swept, none-swept, swept-more, all-swept}
 use borrow.Author.Needs.{needs}

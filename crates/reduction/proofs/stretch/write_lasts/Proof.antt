@@ -4,7 +4,7 @@ use native.Mathlib.Omega.{arith}
 use mathlib.Core.Path.{_≡_, refl}
 use lib.ListN.{length, getD, length-set}
 use denote.Ref.{now}
-use Rattle.reader.specs.Family.{familyOf, region, regionCount}
+use Rattle.reader.specs.Family.{familyOf, regionCount}
 use Rattle.reader.proofs.Parsed.{held-z}
 use Rattle.reduction.specs.Steps.{lastLive}
 use Rattle.reduction.specs.Passes.{range, LastsUpTo}
