@@ -5,7 +5,7 @@ use mathlib.Core.List.{List}
 use mathlib.Core.Logic.{_⊎_}
 use mathlib.Core.Path.{_≡_}
 use lib.ListN.{length, getD}
-use lib.Dec.{ltb}
+use lib.Dec.{eqb, leb, ltb}
 use Rattle.reader.specs.Family.{Family, familyOf, leaves, regionCount, region, peptidesUpTo}
 use Rattle.reader.specs.WellFormed.{WellFormed, ParentsBelow}
 use Rattle.bounds.specs.Ranges.{Range, Peptides, rangeOf, rangesOf}
@@ -125,19 +125,17 @@ pub record WithLives (F : Family) (L H M : List ℕ) : Type 0 where
   pub lives : LiveUpTo F (F .peptides) M
   pub bytes : F .peptides ≤ length M
 
--- the first live peptide from each peptide on is known, and there is room for the first ones of the regions
-pub record WithNexts (F : Family) (L H A C : List ℕ) : Type 0 where
+-- the first live peptide from each peptide on, and the last one up to each peptide, are known
+pub record WithNearest (F : Family) (L H A B : List ℕ) : Type 0 where
   pub ended : Ended F L H
   pub nexts : Nexts (F .peptides) (live (rangesOf F)) A
-  pub places : F .peptides + 1 < length A
-  pub room : regionCount F ≤ length C
-
--- the last live peptide up to each peptide is known, and there is room for the last ones of the regions
-pub record WithLasts (F : Family) (L H B C : List ℕ) : Type 0 where
-  pub ended : Ended F L H
   pub lasts : Lasts (F .peptides) (live (rangesOf F)) B
-  pub places : F .peptides + 1 < length B
-  pub room : regionCount F ≤ length C
+  pub places-after : F .peptides + 1 < length A
+  pub places-before : F .peptides < length B
+
+-- p if it is a peptide of a region with that z, 1 or more, and these ends; else 0
+abbrev pub within : ℕ → ℕ → ℕ → ℕ → ℕ
+within z low high p = cond (eqb z 0) 0 (cond (ltb low p) (cond (leb p high) p 0) 0)
 
 -- those of the first k regions are right
 abbrev pub FirstsUpTo : Family → ℕ → List ℕ → Type 0

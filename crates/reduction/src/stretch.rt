@@ -11,11 +11,11 @@ ghost use mathlib.Core.Path.{_≡_};
 ghost use mathlib.Core.Bool.{cond};
 ghost use Prim.Native.Nat.{_+_, _≤_};
 ghost use lib.ListN.{length};
-ghost use lib.Dec.{eqb, leb, ltb};
+ghost use lib.Dec.{eqb, ltb};
 ghost use Rattle.reader.specs.Family.{familyOf, regionCount};
 ghost use Rattle.bounds.specs.Selections.{selected};
 ghost use Rattle.reduction.specs.Steps.{Parented, Stretched};
-ghost use Rattle.reduction.specs.Passes.{Beginning, Began, Open, Ending, WithParents, Roomy, Ends, Ended, LiveMarked, Reached, LiveUpTo, Spacious, Nexts, Lasts, WithNexts, WithLasts, WithLives, FirstsUpTo, LastsUpTo, Rooms};
+ghost use Rattle.reduction.specs.Passes.{Beginning, Began, Open, Ending, WithParents, Roomy, Ends, Ended, LiveMarked, Reached, LiveUpTo, Spacious, Nexts, Lasts, WithNearest, WithLives, within, FirstsUpTo, LastsUpTo, Rooms};
 
 // Writes the low ends of the regions that begin after the last leaf and the last peptide passed, 0 before the first.
 // The number of regions that have begun.
@@ -195,51 +195,36 @@ fn fill_after(live: &[u8], m: u16, after: &mut [u16])
     }
 }
 
-// The first live peptide of a region, given the first one after its low end.
-fn first_within(z: u16, high: Peptide, next: Peptide) -> Peptide
-    ensures { λ r. ⌜ r .0 ≡ cond (eqb z 0) 0 (cond (leb (next .0) (high .0)) (next .0) 0) ⌝ }
+// The peptide if it is one of a region with z ≥ 1 and these ends, else 0.
+fn if_within(z: u16, low: Peptide, high: Peptide, peptide: Peptide) -> Peptide
+    ensures { λ r. ⌜ r .0 ≡ within z (low .0) (high .0) (peptide .0) ⌝ }
 {
     if z == 0 {
         return Peptide(0);
     }
-    let first = next.0;
-    let end = high.0;
-    if first <= end { next } else { Peptide(0) }
-}
-
-// The last live peptide of a region, given the last one up to its high end.
-fn last_within(z: u16, low: Peptide, last: Peptide) -> Peptide
-    ensures { λ r. ⌜ r .0 ≡ cond (eqb z 0) 0 (cond (ltb (low .0) (last .0)) (last .0) 0) ⌝ }
-{
-    if z == 0 {
+    let p = peptide.0;
+    let before = low.0;
+    if p <= before {
         return Peptide(0);
     }
-    let passed = low.0;
-    let end = last.0;
-    if passed < end { last } else { Peptide(0) }
+    let last = high.0;
+    if p <= last { peptide } else { Peptide(0) }
 }
 
-// The first live peptide of each region.
-fn write_firsts(file: &[u8], lows: &[u16], highs: &[u16], after: &[u16], firsts: &mut [u16])
-    requires { ⌜ WithNexts (familyOf (now file)) (now lows) (now highs) (now after) (now firsts) ⌝ }
+// The first and last live peptide of each region: the nearest ones from its low end on and from its high end back,
+// if they are within it.
+fn write_nearest(
+    file: &[u8],
+    lows: &[u16],
+    highs: &[u16],
+    after: &[u16],
+    before: &[u16],
+    firsts: &mut [u16],
+    lasts: &mut [u16],
+)
+    requires { ⌜ WithNearest (familyOf (now file)) (now lows) (now highs) (now after) (now before) ⌝ }
+    requires { ⌜ Roomy (familyOf (now file)) (now firsts) (now lasts) ⌝ }
     ensures { λ _. ⌜ FirstsUpTo (familyOf (now (file .entry))) (regionCount (familyOf (now (file .entry)))) (now (firsts .exit)) ⌝ }
-{
-    let regions = region_count(file);
-    let mut k = 0;
-    while k < regions {
-        let r = region_of(file, k);
-        let low = lows[k as usize];
-        let high = highs[k as usize];
-        let nearest = after[(low + 1) as usize];
-        let first = first_within(r.z, Peptide(high), Peptide(nearest));
-        firsts[k as usize] = first.0;
-        k += 1;
-    }
-}
-
-// The last live peptide of each region.
-fn write_lasts(file: &[u8], lows: &[u16], highs: &[u16], before: &[u16], lasts: &mut [u16])
-    requires { ⌜ WithLasts (familyOf (now file)) (now lows) (now highs) (now before) (now lasts) ⌝ }
     ensures { λ _. ⌜ LastsUpTo (familyOf (now (file .entry))) (regionCount (familyOf (now (file .entry)))) (now (lasts .exit)) ⌝ }
 {
     let regions = region_count(file);
@@ -248,8 +233,11 @@ fn write_lasts(file: &[u8], lows: &[u16], highs: &[u16], before: &[u16], lasts: 
         let r = region_of(file, k);
         let low = lows[k as usize];
         let high = highs[k as usize];
-        let nearest = before[high as usize];
-        let last = last_within(r.z, Peptide(low), Peptide(nearest));
+        let next = after[(low + 1) as usize];
+        let first = if_within(r.z, Peptide(low), Peptide(high), Peptide(next));
+        let previous = before[high as usize];
+        let last = if_within(r.z, Peptide(low), Peptide(high), Peptide(previous));
+        firsts[k as usize] = first.0;
         lasts[k as usize] = last.0;
         k += 1;
     }
@@ -272,10 +260,9 @@ fn write_stretches(
     let m = peptide_count(file);
     let mut after = [0u16; 4098];
     fill_after(live, m, &mut after);
-    write_firsts(file, lows, highs, &after, firsts);
     let mut before = [0u16; 4098];
     fill_before(live, m, &mut before);
-    write_lasts(file, lows, highs, &before, lasts);
+    write_nearest(file, lows, highs, &after, &before, firsts, lasts);
 }
 
 // The live peptides, and the first and last live peptide of each region with z ≥ 1.
