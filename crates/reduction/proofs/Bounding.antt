@@ -11,12 +11,12 @@ use borrow.Author.Tests.{ltb-true, lt-ltb, eqb-true, eqb-false, eq-eqb, ne-eqb, 
 use Rattle.reader.specs.Family.{Family, regionCount, region}
 use Rattle.reader.specs.WellFormed.{IsParent}
 use Rattle.reader.proofs.Bools.{test, clash, refuted, and-l, and-r, and-both, and-fails, or-r}
-use Rattle.reduction.specs.Keeping.{firstAt, SameStretch, Innermost, Known, sameEnds, Weighed, WeighedBelow, TotalsBelow, Keeps, Marked, NextStretch, keptBound}
+use Rattle.reduction.specs.Keeping.{firstAt, SameStretch, Innermost, WithStretches, sameEnds, Weighed, WeighedBelow, TotalsBelow, Keeps, KeptMarked, NextStretch, keptBound}
 use Rattle.reduction.proofs.Weighing.{parent-some, weighed-same, weighed-other}
 use Rattle.reduction.proofs.Marking.{weighed-keeps, keeps-weighed, inner-last, inner-other, not-inner, marked-more, next-here, next-past}
 
 -- The same stretch, as the lists say it.
-module _ {F : Family} {A B : List ℕ} (K : Known F A B) (i k : ℕ) (a : i < regionCount F) (b : k < regionCount F) where
+module _ {F : Family} {A B : List ℕ} (K : WithStretches F A B) (i k : ℕ) (a : i < regionCount F) (b : k < regionCount F) where
   pub same-read : sameEnds A B i k ≡ true → SameStretch F i k
   unfolding sameEnds
   same-read e = (
@@ -34,7 +34,7 @@ module _ {F : Family} {A B : List ℕ} (K : Known F A B) (i k : ℕ) (a : i < re
       e
 
 -- The weights of a region with a parent.
-module _ {F : Family} {A B : List ℕ} (K : Known F A B) (Z W : List ℕ) (k c : ℕ) (h : k < regionCount F) (some : c ≡ 0 → ⊥) (p : IsParent F k c)
+module _ {F : Family} {A B : List ℕ} (K : WithStretches F A B) (Z W : List ℕ) (k c : ℕ) (h : k < regionCount F) (some : c ≡ 0 → ⊥) (p : IsParent F k c)
     (weights : WeighedBelow F Z W k) (s : 1 ≤ firstAt F k) where
   parent-place : IsParent F k (suc (c - 1))
   parent-place = subst (IsParent F k) (omega arith) p
@@ -86,7 +86,7 @@ module _ (A B T Z W : List ℕ) (c k : ℕ) where
   bound-kept a r t w = rw (ne-eqb (getD A k 0) 0 a, r, lt-ltb (getD Z k 0) (getD T k 0) t, lt-ltb (getD Z k 0) (getD W k 0) w)
 
 -- What the bound means.
-module _ {F : Family} {A B : List ℕ} (T Z W : List ℕ) (K : Known F A B) (totals : TotalsBelow F T) (weights : WeighedBelow F Z W (regionCount F))
+module _ {F : Family} {A B : List ℕ} (T Z W : List ℕ) (K : WithStretches F A B) (totals : TotalsBelow F T) (weights : WeighedBelow F Z W (regionCount F))
     (c k : ℕ) (h : k < regionCount F) (n : NextStretch F (suc k) c) (fits : getD T k 0 ≤ 65535) where
   -- the next region with a stretch
   next-place : (j : ℕ) → c ≡ suc j → c - 1 ≡ j
@@ -173,13 +173,13 @@ module _ {F : Family} {A B : List ℕ} (T Z W : List ℕ) (K : Known F A B) (tot
 
 -- The marks, from the last region to the first.
 
-pub marks-start : (F : Family) (C : List ℕ) (k : ℕ) → regionCount F ≤ k → Marked F C k
+pub marks-start : (F : Family) (C : List ℕ) (k : ℕ) → regionCount F ≤ k → KeptMarked F C k
 marks-start F C k h = record { kept = λ i l u. absurd (omega arith); every = λ i x l u. absurd (omega arith) }
 
 pub next-start : (F : Family) (k : ℕ) → regionCount F ≤ k → NextStretch F k 0
 next-start F k h = record { none = λ e i l u. absurd (omega arith); later = λ j e. absurd (omega arith); first = λ j e. absurd (omega arith) }
 
-module _ {F : Family} {A B : List ℕ} (K : Known F A B) (c k : ℕ) (some : k ≡ 0 → ⊥) (h : k ≤ regionCount F) (n : NextStretch F k c) where
+module _ {F : Family} {A B : List ℕ} (K : WithStretches F A B) (c k : ℕ) (some : k ≡ 0 → ⊥) (h : k ≤ regionCount F) (n : NextStretch F k c) where
   next-after : NextStretch F (suc (k - 1)) c
   next-after = subst (λ (i : ℕ). NextStretch F i c) (omega arith) n
 
@@ -189,10 +189,10 @@ module _ {F : Family} {A B : List ℕ} (K : Known F A B) (c k : ℕ) (some : k �
   pub next-same : getD A (k - 1) 0 ≡ 0 → NextStretch F (k - 1) c
   next-same a = next-past F (k - 1) c (sym (K .firsts (k - 1) (omega arith)) ∙ a) next-after
 
-  pub marks-more : (T Z W C : List ℕ) (v : ℕ) → TotalsBelow F T → WeighedBelow F Z W (regionCount F) → getD T (k - 1) 0 ≤ 65535 → k ≤ length C → Marked F C k
-      → v ≡ keptBound A B T Z W c (k - 1) → Marked F (set C (k - 1) v) (k - 1)
+  pub marks-more : (T Z W C : List ℕ) (v : ℕ) → TotalsBelow F T → WeighedBelow F Z W (regionCount F) → getD T (k - 1) 0 ≤ 65535 → k ≤ length C → KeptMarked F C k
+      → v ≡ keptBound A B T Z W c (k - 1) → KeptMarked F (set C (k - 1) v) (k - 1)
   marks-more T Z W C v totals weights fits room old e =
       let l : k - 1 < regionCount F = omega arith in
-      marked-more F C (k - 1) v (omega arith) (subst (Marked F C) (omega arith) old)
+      marked-more F C (k - 1) v (omega arith) (subst (KeptMarked F C) (omega arith) old)
       (λ s. rw e (bound-keeps T Z W K totals weights c (k - 1) l next-after fits (rw e at s)))
       (λ x y. e ∙ keeps-bound T Z W K totals weights c (k - 1) l next-after fits x y)

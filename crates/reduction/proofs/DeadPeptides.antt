@@ -6,7 +6,7 @@ use mathlib.Core.Bool.{false, cond}
 use mathlib.Core.List.{List}
 use mathlib.Core.Logic.{_⊎_, ⊎-elim}
 use mathlib.Core.Path.{_≡_, refl, sym, subst, _∙_}
-use lib.ListN.{length, getD, set, List·getD-map}
+use lib.ListN.{length, set}
 use lib.Seq.{getD-set-same, getD-set-other}
 use lib.Dec.{ltb}
 use borrow.Author.Tests.{ltb-true, ltb-false}
@@ -17,18 +17,18 @@ use Rattle.bounds.proofs.Members.{place, test, le-or-lt}
 use Rattle.bounds.proofs.Nesting.{has-facts, has-holds}
 use Rattle.bounds.proofs.Family.{ranges-length, range-in, noRange, range-at, upTo-mono}
 use Rattle.reduction.specs.Reduction.{live}
-use Rattle.reduction.specs.Passes.{Marked, LiveUpTo, Reached}
+use Rattle.reduction.specs.Passes.{LiveMarked, LiveUpTo, Reached}
 use Rattle.reduction.proofs.Live.{dead-facts, dead-holds}
 use Rattle.reduction.proofs.OpenRegions.{below-next, upTo-small}
 
 -- The byte of one peptide more is written.
 
-pub none-marked : (L : List ℕ) (from until : ℕ) → Marked L L from from until
+pub none-marked : (L : List ℕ) (from until : ℕ) → LiveMarked L L from from until
 none-marked L from until = record { old = λ p h. refl; new = λ p h l. absurd (omega arith) }
 
 pub marked-more :
-    (L M : List ℕ) (from to until v : ℕ) → from ≤ to → to < length M → v ≡ cond (ltb to until) 0 1 → Marked L M from to until
-    → Marked L (set M to v) from (to + 1) until
+    (L M : List ℕ) (from to until v : ℕ) → from ≤ to → to < length M → v ≡ cond (ltb to until) 0 1 → LiveMarked L M from to until
+    → LiveMarked L (set M to v) from (to + 1) until
 marked-more L M from to until v order room e k =
     record {
       old = λ p h. getD-set-other M to p v 0 (λ d. omega arith) ∙ k .old p h;
@@ -40,7 +40,7 @@ marked-more L M from to until v order room e k =
           (below-next l);
     }
 
-pub marked-less : (L M : List ℕ) (from to until n : ℕ) → n ≤ to → Marked L M from to until → Marked L M from n until
+pub marked-less : (L M : List ℕ) (from to until n : ℕ) → n ≤ to → LiveMarked L M from to until → LiveMarked L M from n until
 marked-less L M from to until n h k = record { old = k .old; new = λ p a l. k .new p a (omega arith) }
 
 -- The ranges of a family by number.
@@ -129,7 +129,7 @@ module _ (F : Family) (w : WellFormed F) where
   -- the bytes up to a peptide before those of the other regions
   settle :
       (k settled u to : ℕ) (M N : List ℕ) → k ≤ regionCount F → Swept F k settled u M → ((i : ℕ) → k ≤ i → i < regionCount F → to ≤ rangeAt F i .low)
-      → Marked M N settled to u → LiveUpTo F to N
+      → LiveMarked M N settled to u → LiveUpTo F to N
   settle k settled u to M N few s next marked p l =
       ⊎-elim
       (λ a. marked .new p a l ∙ dead-reached k settled u p M few s a (λ i h j. omega (arith, next i h j)))
@@ -140,7 +140,7 @@ module _ (F : Family) (w : WellFormed F) where
   pub swept-more :
       (k settled u low z high v : ℕ) (M N : List ℕ) → k < regionCount F → low ≡ rangeAt F k .low → high ≡ rangeAt F k .high → z ≡ region F k .z
       → Reached z high u v
-      → Swept F k settled u M → Marked M N settled low u → Swept F (k + 1) low v N
+      → Swept F k settled u M → LiveMarked M N settled low u → Swept F (k + 1) low v N
   swept-more k settled u low z high v M N h el eh ez ev s marked =
       record {
         few = omega (arith, low-high F w k h, high-small F w k h);
@@ -166,7 +166,7 @@ module _ (F : Family) (w : WellFormed F) where
 
   -- all regions
   pub all-swept :
-      (k settled u m : ℕ) (M N : List ℕ) → k ≡ regionCount F → m ≡ F .peptides → Swept F k settled u M → Marked M N settled m u
+      (k settled u m : ℕ) (M N : List ℕ) → k ≡ regionCount F → m ≡ F .peptides → Swept F k settled u M → LiveMarked M N settled m u
       → LiveUpTo F (F .peptides) N
   all-swept k settled u m M N all e s marked p l =
       settle k settled u m M N (omega arith) s (λ i h j. absurd (omega arith)) marked p (omega arith)

@@ -12,7 +12,7 @@ use Rattle.reader.specs.Lists.{sameList}
 use Rattle.reader.specs.Bytes.{IsBytes, numberAt}
 use Rattle.reader.specs.Family.{regionCount, familyOf}
 use Rattle.reader.specs.Causes.{firstCause, Accepted}
-use Rattle.reader.specs.Calls.{Report, answer, written}
+use Rattle.reader.specs.Calls.{Report}
 use Rattle.reader.proofs.Bools.{test}
 use Rattle.reader.proofs.Lists.{same-equal, same-is}
 use Rattle.reader.proofs.First.{answers, writes}
@@ -25,7 +25,7 @@ use Rattle.reduction.specs.declared.ReducedFile.{ReducedFile}
 use Rattle.reduction.specs.declared.ReducedFile.the-variants as made
 use Rattle.reduction.specs.declared.Compared.{Compared}
 use Rattle.reduction.specs.declared.Compared.the-variants as compared
-use Rattle.reduction.specs.Calls.{reportReduced, reduceCauses, reducedCounts, reportCompared, compareCauses, comparison}
+use Rattle.reduction.specs.Calls.{reportReduced, reduceCauses, reducedCounts, reportCompared, compareCauses, comparison, ReduceAnswers, ReduceWrites, SameAnswers}
 use Rattle.reduction.proofs.OneFile.{reduced-accepted, reduced-bytes, reduced-file-alike, reduced-file-again, reduced-file-fits, alike-same-file, same-file-alike, smallest-file}
 use Rattle.reduction.proofs.ReduceCalls.{output-suffices, both-accepted}
 
@@ -34,15 +34,6 @@ pub record AcceptedFile : Type 0 where
   pub file : List ℕ
   pub bytes : IsBytes file
   pub accepted : Accepted file
-
--- what `reduce` promises: r is the answer, and new what is left in the output
-pub record Reduces (file out : List ℕ) (r : ReducedFile) (new : List ℕ) : Type 0 where
-  pub answered : reportReduced r ≡ answer (reduceCauses file out) (reducedCounts file)
-  pub left : new ≡ written (reduceCauses file out) (reducedFile file) out
-
--- what `same` promises
-pub record Compares (first second : List ℕ) (r : Compared) : Type 0 where
-  pub answered : reportCompared r ≡ answer (compareCauses first second) (comparison first second)
 
 -- the answer has the length and the K of the reduced file, which is as many of the first bytes of the output; the rest is unchanged
 pub record AtStart (file out : List ℕ) (r : ReducedFile) (new : List ℕ) : Type 0 where
@@ -70,11 +61,11 @@ pub record DemandThree : Type 0 where
   pub shortest : (f g : AcceptedFile) → Alike (familyOf (f .file)) (familyOf (g .file)) → length (reducedFile (f .file)) ≤ length (g .file)
   -- It is no longer than the file, so an output as long as the file suffices.
   pub fits : (f : AcceptedFile) → length (reducedFile (f .file)) ≤ length (f .file)
-  -- By its promise `reduce` writes this file,
-  pub reduces : (f : AcceptedFile) (out new : List ℕ) (r : ReducedFile) → length (f .file) ≤ length out → Reduces (f .file) out r new → AtStart (f .file) out r new
+  -- By its two promises `reduce` writes this file,
+  pub reduces : (f : AcceptedFile) (out new : List ℕ) (r : ReducedFile) → length (f .file) ≤ length out → ReduceAnswers (f .file) out r → ReduceWrites (f .file) out new → AtStart (f .file) out r new
   -- and by its promise `same` says yes exactly when the two families are alike.
-  pub alike-if-same : (f g : AcceptedFile) (r : Compared) → Compares (f .file) (g .file) r → r ≡ compared.Same → Alike (familyOf (f .file)) (familyOf (g .file))
-  pub same-if-alike : (f g : AcceptedFile) (r : Compared) → Compares (f .file) (g .file) r → Alike (familyOf (f .file)) (familyOf (g .file)) → r ≡ compared.Same
+  pub alike-if-same : (f g : AcceptedFile) (r : Compared) → SameAnswers (f .file) (g .file) r → r ≡ compared.Same → Alike (familyOf (f .file)) (familyOf (g .file))
+  pub same-if-alike : (f g : AcceptedFile) (r : Compared) → SameAnswers (f .file) (g .file) r → Alike (familyOf (f .file)) (familyOf (g .file)) → r ≡ compared.Same
 
 -- The promises.
 
@@ -89,13 +80,13 @@ module _ (f : AcceptedFile) (out : List ℕ) (room : length (f .file) ≤ length
   no-cause : firstCause (reduceCauses (f .file) out) ≡ 0
   no-cause = output-suffices (f .file) out (f .accepted) room
 
-  reduces-to : (r : ReducedFile) (new : List ℕ) → Reduces (f .file) out r new → AtStart (f .file) out r new
+  reduces-to : (r : ReducedFile) (new : List ℕ) → ReduceAnswers (f .file) out r → ReduceWrites (f .file) out new → AtStart (f .file) out r new
   unfolding reportReduced reducedCounts
-  reduces-to (made.Written l k) new p =
+  reduces-to (made.Written l k) new p w =
       let s = reducedFile (f .file) in
-      let e = p .answered ∙ answers (reduceCauses (f .file) out) no-cause (reducedCounts (f .file)) in
+      let e = p ∙ answers (reduceCauses (f .file) out) no-cause (reducedCounts (f .file)) in
       let there : l ≡ length s = cc (ap (λ (r : Report). r .values) e, length-said f) in
-      let left = p .left ∙ writes (reduceCauses (f .file) out) no-cause s out in
+      let left = w ∙ writes (reduceCauses (f .file) out) no-cause s out in
       record {
         bytes = l;
         regions = k;
@@ -104,8 +95,8 @@ module _ (f : AcceptedFile) (out : List ℕ) (room : length (f .file) ≤ length
         start = ap (take l) left ∙ take-at s (drop (length s) out) l (sym there);
         rest = ap (drop l) left ∙ drop-at s (drop (length s) out) l (sym there) ∙ ap (λ (n : ℕ). drop n out) (sym there);
       }
-  reduces-to (made.Refused n) new p =
-      let e = ap (λ (r : Report). length (r .values)) (p .answered ∙ answers (reduceCauses (f .file) out) no-cause (reducedCounts (f .file))) in
+  reduces-to (made.Refused n) new p w =
+      let e = ap (λ (r : Report). length (r .values)) (p ∙ answers (reduceCauses (f .file) out) no-cause (reducedCounts (f .file))) in
       absurd (omega arith)
 
 module _ (f g : AcceptedFile) where
@@ -113,13 +104,13 @@ module _ (f g : AcceptedFile) where
   equal = sameList (reducedFile (f .file)) (reducedFile (g .file))
 
   -- the answer is 1 or 0
-  says : (r : Compared) → Compares (f .file) (g .file) r → reportCompared r .values ≡ bit equal ∷ []
+  says : (r : Compared) → SameAnswers (f .file) (g .file) r → reportCompared r .values ≡ bit equal ∷ []
   unfolding comparison
   says r p =
       ap (λ (r : Report). r .values)
-      (p .answered ∙ answers (compareCauses (f .file) (g .file)) (both-accepted (f .file) (g .file) (f .accepted) (g .accepted)) (comparison (f .file) (g .file)))
+      (p ∙ answers (compareCauses (f .file) (g .file)) (both-accepted (f .file) (g .file) (f .accepted) (g .accepted)) (comparison (f .file) (g .file)))
 
-  says-equal : (r : Compared) → Compares (f .file) (g .file) r → r ≡ compared.Same → reducedFile (f .file) ≡ reducedFile (g .file)
+  says-equal : (r : Compared) → SameAnswers (f .file) (g .file) r → r ≡ compared.Same → reducedFile (f .file) ≡ reducedFile (g .file)
   unfolding reportCompared
   says-equal r p e =
       let v : _≡_ {A = List ℕ} (1 ∷ []) (bit equal ∷ []) = sym (ap (λ (r : Compared). reportCompared r .values) e) ∙ says r p in
@@ -128,7 +119,7 @@ module _ (f g : AcceptedFile) where
       (λ t. let z : _≡_ {A = ℕ} 1 0 = cc (v, ap bit t) in absurd (omega arith))
       (test equal)
 
-  equal-says : (r : Compared) → Compares (f .file) (g .file) r → reducedFile (f .file) ≡ reducedFile (g .file) → r ≡ compared.Same
+  equal-says : (r : Compared) → SameAnswers (f .file) (g .file) r → reducedFile (f .file) ≡ reducedFile (g .file) → r ≡ compared.Same
   unfolding reportCompared
   equal-says compared.Same p e = refl
   equal-says compared.Different p e =

@@ -1,11 +1,9 @@
 -- The reduced family has no more leaves than the family: every leaf end of the reduced family is one of the family.
 use Prim.Native.Nat.{ℕ, zero, suc, _-_, _≤_, _<_}
 use mathlib.Core.Bool.{true, false}
-use mathlib.Core.List.{List, [], _∷_}
 use mathlib.Core.Logic.{⊎-elim}
 use mathlib.Core.Path.{_≡_, sym, _∙_, ap}
 use native.Mathlib.Omega.{arith}
-use lib.ListN.{take}
 use lib.Seq.{take-length}
 use Rattle.reader.specs.Lists.{sum}
 use Rattle.reader.specs.Family.{Family, leaves, region, peptidesUpTo}

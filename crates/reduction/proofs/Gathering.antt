@@ -20,7 +20,7 @@ use Rattle.bounds.proofs.Members.{test, clash, refuted, and-l, and-r, and-both,
 use Rattle.bounds.proofs.Family.{ranges-length}
 use Rattle.reduction.specs.Reduction.{piece, live}
 use Rattle.reduction.specs.Steps.{Begins, liveBytes, reducedRanges, Listed}
-use Rattle.reduction.specs.Keeping.{firstAt, lastAt, SameStretch, Keeps, Marked, beginsRun, RunTo, ofFirst, withRuns, Gathered, Passed}
+use Rattle.reduction.specs.Keeping.{firstAt, lastAt, SameStretch, Keeps, KeptMarked, beginsRun, RunTo, ofFirst, withRuns, Gathered, Passed}
 use Rattle.reduction.proofs.Unless.{lt-unless}
 use Rattle.reduction.proofs.Grid.{Before, FileOrder, in-append, append-l, append-r, those-ordered, ordered-same}
 use Rattle.reduction.proofs.Stretches.{stretches-facts}
@@ -248,7 +248,7 @@ module _ (F : Family) (X : List ℕ) (b : Begins (liveBytes F) X) (p : ℕ) wher
 
 -- One region more.
 
-module _ {F : Family} (w : WellFormed F) (C : List ℕ) (M : Marked F C 0) where
+module _ {F : Family} (w : WellFormed F) (C : List ℕ) (M : KeptMarked F C 0) where
   abbrev here : ℕ → Range → Bool
   here i x = ltb 0 (getD C i 0) && (eqb (firstAt F i) (x .from) && eqb (lastAt F i) (x .to))
 
@@ -454,7 +454,7 @@ module _ {F : Family} (w : WellFormed F) (C : List ℕ) (M : Marked F C 0) where
           (λ l. of-run F (ofFirst F C (regionCount F)) s x l ∙ lt-ltb (x .from) s (omega (arith, ends F x i)))
           (test (live (rangesOf F) (x .from)))
 
-pub listed-all : (s : List ℕ) (w : WellFormed (familyOf s)) (C : List ℕ) → Marked (familyOf s) C 0 → (k q n : ℕ) (A B Z : List ℕ) → k ≡ regionCount (familyOf s)
+pub listed-all : (s : List ℕ) (w : WellFormed (familyOf s)) (C : List ℕ) → KeptMarked (familyOf s) C 0 → (k q n : ℕ) (A B Z : List ℕ) → k ≡ regionCount (familyOf s)
     → q ≡ familyOf s .peptides + 1 → Gathered (familyOf s) (ofFirst (familyOf s) C k) q n A B Z → Listed s n A B Z
 listed-all s w C M k q n A B Z a b g =
     let F = familyOf s in

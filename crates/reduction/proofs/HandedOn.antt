@@ -26,7 +26,7 @@ use Rattle.bounds.proofs.Counting.{SameSet}
 use Rattle.bounds.proofs.Totals.{total-same}
 use Rattle.reduction.specs.Reduction.{live}
 use Rattle.reduction.specs.Steps.{Begins, liveBytes, firstLive, lastLive, firstsLive, lastsLive, Parented, Stretched, Totalled}
-use Rattle.reduction.specs.Keeping.{firstAt, lastAt, Known, totalAt, TotalsBelow, beginsRun}
+use Rattle.reduction.specs.Keeping.{firstAt, lastAt, WithStretches, totalAt, TotalsBelow, beginsRun}
 
 -- a list that begins with another has its elements
 begins-at : (L A : List ℕ) → Begins L A → (k : ℕ) → k < length L → getD A k 0 ≡ getD L k 0
@@ -51,7 +51,7 @@ module _ (F : Family) (f : Range → ℕ) (A : List ℕ) (b : Begins (map f (ran
       ∙ map-at f (rangeOf F) (F .regions) (record { first = 0; last = 0; z = 0 }) k h
 
 module _ (s : List ℕ) (bytes : IsBytes s) (accepted : Accepted s) where
-  pub known : (L A B : List ℕ) → Stretched s L A B → Known (familyOf s) A B
+  pub known : (L A B : List ℕ) → Stretched s L A B → WithStretches (familyOf s) A B
   unfolding firstAt lastAt firstsLive lastsLive
   known L A B t =
       record {

@@ -21,7 +21,7 @@ use Rattle.bounds.proofs.Members.{test, le-or-lt}
 use Rattle.bounds.proofs.Family.{ranges-length, range-at}
 use Rattle.reduction.specs.Reduction.{live}
 use Rattle.reduction.specs.Steps.{Begins, liveBytes, firstLive, lastLive, firstsLive, lastsLive}
-use Rattle.reduction.specs.Passes.{Known, LiveUpTo, FirstsUpTo, LastsUpTo}
+use Rattle.reduction.specs.Passes.{WithParents, LiveUpTo, FirstsUpTo, LastsUpTo}
 
 pub begins-with : (new whole : List ℕ) → length new ≤ length whole → ((i : ℕ) → i < length new → getD whole i 0 ≡ getD new i 0) → Begins new whole
 begins-with new whole room h =
@@ -110,7 +110,7 @@ module _ (F : Family) (w : WellFormed F) (k : ℕ) (lk : k < regionCount F) wher
       let (c, p) = search-parent k (omega arith) (λ i a b r. omega arith) in
       rw (parent-is F (w .ordered) (w .nested) k c lk p) p
 
-pub known-parents : (F : Family) → WellFormed F → (P : List ℕ) → Begins (parents F) P → Known F P
+pub known-parents : (F : Family) → WellFormed F → (P : List ℕ) → Begins (parents F) P → WithParents F P
 unfolding parents
 known-parents F w P b =
     let n = length-tabulate (regionCount F) (parent F) in

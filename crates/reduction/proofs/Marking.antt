@@ -17,7 +17,7 @@ use Rattle.bounds.proofs.Nesting.{Inside, has-facts, has-holds}
 use Rattle.bounds.proofs.Laminar.{Laminar}
 use Rattle.bounds.proofs.Family.{range-in, family-laminar}
 use Rattle.reduction.specs.Reduction.{piece, live, stretches, room, reduced}
-use Rattle.reduction.specs.Keeping.{firstAt, lastAt, SameStretch, Outward, Innermost, Weighed, totalAt, Keeps, Marked, NextStretch}
+use Rattle.reduction.specs.Keeping.{firstAt, lastAt, SameStretch, Outward, Innermost, Weighed, totalAt, Keeps, KeptMarked, NextStretch}
 use Rattle.reduction.proofs.Unless.{lt-unless}
 use Rattle.reduction.proofs.Kept.{Kept}
 use Rattle.reduction.proofs.Stretches.{StretchOf, Source, stretches-facts, stretches-holds}
@@ -288,8 +288,8 @@ module _ {F : Family} (w : WellFormed F) where
 
 -- one more region is marked
 pub marked-more :
-    (F : Family) (C : List ℕ) (k v : ℕ) → k < length C → Marked F C (suc k) → (1 ≤ v → Keeps F k v) → ((x : ℕ) → Keeps F k x → v ≡ x)
-    → Marked F (set C k v) k
+    (F : Family) (C : List ℕ) (k v : ℕ) → k < length C → KeptMarked F C (suc k) → (1 ≤ v → Keeps F k v) → ((x : ℕ) → Keeps F k x → v ≡ x)
+    → KeptMarked F (set C k v) k
 marked-more F C k v a old new all = record { kept = kept′; every = every }
   where
     value : (i : ℕ) → k ≤ i → ((i ≡ k) × (getD (set C k v) i 0 ≡ v)) ⊎ ((suc k ≤ i) × (getD (set C k v) i 0 ≡ getD C i 0))

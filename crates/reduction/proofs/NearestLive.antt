@@ -11,7 +11,7 @@ use mathlib.Core.Path.{_≡_, refl, sym, ap, subst, _∙_}
 use lib.ListN.{length, getD, set}
 use lib.Seq.{getD-set-same, getD-set-other}
 use lib.Dec.{eqb, leb, ltb}
-use borrow.Author.Tests.{eqb-true, eqb-false, leb-true, leb-false, ltb-true, ltb-false}
+use borrow.Author.Tests.{eqb-true, eqb-false, leb-true, leb-false, ltb-true, ltb-false, lt-ltb, le-leb}
 use Rattle.reader.specs.Family.{Family, regionCount, region}
 use Rattle.reader.specs.WellFormed.{WellFormed}
 use Rattle.bounds.specs.Ranges.{Range, Peptides, rangesOf, rangeAt}
@@ -20,7 +20,7 @@ use Rattle.bounds.proofs.Members.{test, clash}
 use Rattle.bounds.proofs.Nesting.{has-facts, has-holds}
 use Rattle.reduction.specs.Reduction.{live, livePeptides, firstOf, lastOf}
 use Rattle.reduction.specs.Steps.{firstLive, lastLive}
-use Rattle.reduction.specs.Passes.{LiveUpTo, Next, Nexts, Lasts}
+use Rattle.reduction.specs.Passes.{LiveUpTo, Next, Nexts, Lasts, within}
 use Rattle.reduction.proofs.FirstLast.{firstOf-small, firstOf-member, firstOf-is, lastOf-small, lastOf-member, lastOf-atLeast, lastOf-is}
 use Rattle.reduction.proofs.Stretches.{live-in, in-live}
 use Rattle.reduction.proofs.DeadPeptides.{range-z, high-small}
@@ -167,6 +167,24 @@ lastOf-none n X h =
     absurd (h (lastOf n X) some (lastOf-small n X) (lastOf-member n X some)))
     (test (eqb (lastOf n X) 0))
 
+-- One of the two tests is idle each way: what is found after the low end is none or above it, what is found up to the high end
+-- is at most that.
+
+next-within : {m : ℕ} {X : Peptides} (low high a : ℕ) → Next m X (low + 1) a → cond (ltb low a) (cond (leb a high) a 0) 0 ≡ cond (leb a high) a 0
+next-within low high a n =
+    ⊎-elim
+    (λ z. rw (eqb-true a 0 z) (none (ltb low 0) (leb 0 high)))
+    (λ f. rw (lt-ltb low a (omega (arith, n .member (omega (arith, eqb-false a 0 f)) .0))))
+    (test (eqb a 0))
+  where
+    none : (b c : Bool) → _≡_ {A = ℕ} (cond b (cond c 0 0) 0) (cond c 0 0)
+    none true c = refl
+    none false true = refl
+    none false false = refl
+
+last-within : (X : Peptides) (low high b : ℕ) → b ≡ lastOf high X → cond (ltb low b) (cond (leb b high) b 0) 0 ≡ cond (ltb low b) b 0
+last-within X low high b is = rw (le-leb b high (omega (arith, lastOf-small high X)))
+
 module _ (m : ℕ) (R : List Range) (r : Range) where
   first-from : (a : ℕ) → Next m (live R) (r .low + 1) a → cond (leb a (r .high)) a 0 ≡ firstOf m (livePeptides R r)
   first-from a n =
@@ -220,17 +238,19 @@ module _ (m : ℕ) (R : List Range) (r : Range) where
 
 module _ (F : Family) (k z low high : ℕ) (ez : z ≡ region F k .z) (el : low ≡ rangeAt F k .low) (eh : high ≡ rangeAt F k .high) where
   pub first-found :
-      (a v : ℕ) → Next (F .peptides) (live (rangesOf F)) (low + 1) a → v ≡ cond (eqb z 0) 0 (cond (leb a high) a 0)
+      (a v : ℕ) → Next (F .peptides) (live (rangesOf F)) (low + 1) a → v ≡ within z low high a
       → v ≡ firstLive F (rangeAt F k)
   unfolding firstLive
   first-found a v n e =
       e
+      ∙ ap (λ (x : ℕ). cond (eqb z 0) 0 x) (next-within low high a n)
       ∙ rw (ez ∙ sym (range-z F k), eh) (ap (λ (x : ℕ). cond (eqb (rangeAt F k .z) 0) 0 x) (first-from (F .peptides) (rangesOf F) (rangeAt F k) a (rw el at n)))
 
   pub last-found :
-      WellFormed F → k < regionCount F → (b v : ℕ) → b ≡ lastOf high (live (rangesOf F)) → v ≡ cond (eqb z 0) 0 (cond (ltb low b) b 0)
+      WellFormed F → k < regionCount F → (b v : ℕ) → b ≡ lastOf high (live (rangesOf F)) → v ≡ within z low high b
       → v ≡ lastLive F (rangeAt F k)
   unfolding lastLive
   last-found w l b v is e =
       e
+      ∙ ap (λ (x : ℕ). cond (eqb z 0) 0 x) (last-within (live (rangesOf F)) low high b is)
       ∙ rw (ez ∙ sym (range-z F k), el) (ap (λ (x : ℕ). cond (eqb (rangeAt F k .z) 0) 0 x) (last-to (F .peptides) (rangesOf F) (rangeAt F k) b (high-small F w k l) (rw eh at is)))

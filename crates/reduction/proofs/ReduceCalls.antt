@@ -13,7 +13,7 @@ use Rattle.reader.specs.Lists.{sameList}
 use Rattle.reader.specs.Family.{familyOf, regionCount}
 use Rattle.reader.specs.Nesting.{parents}
 use Rattle.reader.specs.Causes.{Cause, firstCause, headerCauses, familyCauses, fileCauses, Accepted}
-use Rattle.reader.specs.Calls.{Report, answer, written, withParents}
+use Rattle.reader.specs.Calls.{withParents}
 use Rattle.reader.proofs.Bools.{test}
 use Rattle.reader.proofs.First.{Numbered, first-holds, first-fails, head-clear, join-clear, join-holds, answers, declines, writes, leaves-unchanged}
 use Rattle.reader.proofs.Judged.{peptides-counted, leaves-counted, regions-counted}
@@ -21,10 +21,10 @@ use Rattle.reader.proofs.Accepting.{accepted-header, few-regions, whole-length,
 use Rattle.bounds.specs.Calls.{short}
 use Rattle.reduction.specs.Reduction.{reducedFile}
 use Rattle.reduction.specs.Steps.{Begins}
+use Rattle.reduction.specs.declared.ReducedFile.{ReducedFile}
 use Rattle.reduction.specs.declared.ReducedFile.the-variants as made
-use Rattle.reduction.specs.declared.Compared.{Compared}
 use Rattle.reduction.specs.declared.Compared.the-variants as compared
-use Rattle.reduction.specs.Calls.{reportReduced, reduceCauses, reducedCounts, reportCompared, compareCauses, comparison}
+use Rattle.reduction.specs.Calls.{reportReduced, reduceCauses, reducedCounts, reportCompared, compareCauses, comparison, ReduceAnswers, ReduceWrites, SameAnswers}
 use Rattle.reduction.specs.Writing.{Wrote}
 use Rattle.reduction.specs.FileChecks.{FileJudged}
 
@@ -97,34 +97,27 @@ module _ (s out : List ℕ) where
   output-suffices a h = short-output a ∙ ap (λ (b : Bool). cond b 16 0) (le-ltb (length out) (length s) h)
 
   -- the answer r, with the list new left in the output
-  pub record Answered (r : Report) (new : List ℕ) : Type 0 where
-    pub answered : r ≡ answer (reduceCauses s out) (reducedCounts s)
-    pub left : new ≡ written (reduceCauses s out) (reducedFile s) out
+  abbrev Reduces : ReducedFile → List ℕ → Type 0
+  Reduces r new = ReduceAnswers s out r × ReduceWrites s out new
 
-  declined : (n : ℕ) → n ≡ firstCause (reduceCauses s out) → (n ≡ 0 → ⊥) → Answered (reportReduced (made.Refused n)) out
+  declined : (n : ℕ) → n ≡ firstCause (reduceCauses s out) → (n ≡ 0 → ⊥) → Reduces (made.Refused n) out
   unfolding reportReduced
   declined n e h =
-      record {
-        answered = rw e (sym (declines (reduceCauses s out) (λ z. h (e ∙ z)) (reducedCounts s)));
-        left = sym (leaves-unchanged (reduceCauses s out) (λ z. h (e ∙ z)) (reducedFile s) out);
-      }
+      (rw e (sym (declines (reduceCauses s out) (λ z. h (e ∙ z)) (reducedCounts s))), sym (leaves-unchanged (reduceCauses s out) (λ z. h (e ∙ z)) (reducedFile s) out))
 
-  pub reduce-refused : (n : ℕ) → n ≡ firstCause (fileCauses s) → (n ≡ 0 → ⊥) → Answered (reportReduced (made.Refused n)) out
+  pub reduce-refused : (n : ℕ) → n ≡ firstCause (fileCauses s) → (n ≡ 0 → ⊥) → Reduces (made.Refused n) out
   reduce-refused n e h = declined n (e ∙ sym (file-declines (λ z. h (e ∙ z)))) h
 
-  pub reduce-short : Accepted s → length out < length s → Answered (reportReduced (made.Refused 16)) out
+  pub reduce-short : Accepted s → length out < length s → Reduces (made.Refused 16) out
   reduce-short a h =
       let e : 16 ≡ firstCause (reduceCauses s out) = sym (short-output a ∙ ap (λ (b : Bool). cond b 16 0) (lt-ltb (length out) (length s) h)) in
       declined 16 e (λ z. omega arith)
 
-  pub reduce-written : Accepted s → length s ≤ length out → (new : List ℕ) (l k : ℕ) → Wrote s out new l k → Answered (reportReduced (made.Written l k)) new
+  pub reduce-written : Accepted s → length s ≤ length out → (new : List ℕ) (l k : ℕ) → Wrote s out new l k → Reduces (made.Written l k) new
   unfolding reportReduced reducedCounts
   reduce-written a h new l k w =
       let none = output-suffices a h in
-      record {
-        answered = rw (w .total, w .counted) (sym (answers (reduceCauses s out) none (reducedCounts s)));
-        left = w .start ∙ sym (writes (reduceCauses s out) none (reducedFile s) out);
-      }
+      (rw (w .total, w .counted) (sym (answers (reduceCauses s out) none (reducedCounts s))), w .start ∙ sym (writes (reduceCauses s out) none (reducedFile s) out))
 
 -- The comparison.
 
@@ -152,9 +145,6 @@ further-holds (c ∷ cs) h =
     (test (c .holds))
 
 module _ (first second : List ℕ) where
-  abbrev Compares : Compared → Type 0
-  Compares r = reportCompared r ≡ answer (compareCauses first second) (comparison first second)
-
   first-family : (firstCause (fileCauses first) ≡ 0 → ⊥) → firstCause (compareCauses first second) ≡ firstCause (fileCauses first)
   unfolding compareCauses
   first-family h = join-holds (fileCauses first) _ h
@@ -163,14 +153,14 @@ module _ (first second : List ℕ) where
   unfolding compareCauses further
   second-family a = join-clear (fileCauses first) _ (file-numbered first) a
 
-  not-compared : (n : ℕ) → n ≡ firstCause (compareCauses first second) → (n ≡ 0 → ⊥) → Compares (compared.Refused n)
+  not-compared : (n : ℕ) → n ≡ firstCause (compareCauses first second) → (n ≡ 0 → ⊥) → SameAnswers first second (compared.Refused n)
   unfolding reportCompared
   not-compared n e h = rw e (sym (declines (compareCauses first second) (λ z. h (e ∙ z)) (comparison first second)))
 
-  pub first-refused : (n : ℕ) → n ≡ firstCause (fileCauses first) → (n ≡ 0 → ⊥) → Compares (compared.Refused n)
+  pub first-refused : (n : ℕ) → n ≡ firstCause (fileCauses first) → (n ≡ 0 → ⊥) → SameAnswers first second (compared.Refused n)
   first-refused n e h = not-compared n (e ∙ sym (first-family (λ z. h (e ∙ z)))) h
 
-  pub second-refused : Accepted first → (n : ℕ) → n ≡ firstCause (fileCauses second) → (n ≡ 0 → ⊥) → Compares (compared.Refused (n + 100))
+  pub second-refused : Accepted first → (n : ℕ) → n ≡ firstCause (fileCauses second) → (n ≡ 0 → ⊥) → SameAnswers first second (compared.Refused (n + 100))
   second-refused a n e h =
       not-compared (n + 100)
       (ap (λ (k : ℕ). k + 100) e ∙ sym (second-family a ∙ further-holds (fileCauses second) (λ z. h (e ∙ z))))
@@ -179,10 +169,10 @@ module _ (first second : List ℕ) where
   pub both-accepted : Accepted first → Accepted second → firstCause (compareCauses first second) ≡ 0
   both-accepted a b = second-family a ∙ further-clear (fileCauses second) (file-numbered second) b
 
-  pub compare-same : Accepted first → Accepted second → sameList (reducedFile first) (reducedFile second) ≡ true → Compares compared.Same
+  pub compare-same : Accepted first → Accepted second → sameList (reducedFile first) (reducedFile second) ≡ true → SameAnswers first second compared.Same
   unfolding reportCompared comparison
   compare-same a b e = rw e (sym (answers (compareCauses first second) (both-accepted a b) (1 ∷ [])))
 
-  pub compare-different : Accepted first → Accepted second → sameList (reducedFile first) (reducedFile second) ≡ false → Compares compared.Different
+  pub compare-different : Accepted first → Accepted second → sameList (reducedFile first) (reducedFile second) ≡ false → SameAnswers first second compared.Different
   unfolding reportCompared comparison
   compare-different a b e = rw e (sym (answers (compareCauses first second) (both-accepted a b) (0 ∷ [])))

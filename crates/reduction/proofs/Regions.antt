@@ -5,7 +5,7 @@ use mathlib.Core.List.{List, [], _∷_, map}
 use mathlib.Core.Logic.{_⊎_, inl, inr}
 use mathlib.Core.Path.{_≡_, refl, sym, _∙_}
 use native.Mathlib.Omega.{arith}
-use lib.ListN.{length, getD, List·getD-map}
+use lib.ListN.{length, getD}
 use Rattle.reader.specs.Lists.{countBelow}
 use Rattle.reader.specs.Family.{Region, Family, leaves, regionCount, region}
 use Rattle.reader.specs.Nesting.{regionsAround}

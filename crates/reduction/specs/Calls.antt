@@ -2,11 +2,12 @@
 use Prim.Native.Nat.{ℕ, _+_}
 use mathlib.Core.Bool.{cond}
 use mathlib.Core.List.{List, [], _∷_, _++_, map}
+use mathlib.Core.Path.{_≡_}
 use lib.ListN.{length}
 use Rattle.reader.specs.Lists.{sameList}
 use Rattle.reader.specs.Bytes.{numberAt}
 use Rattle.reader.specs.Causes.{Cause, fileCauses}
-use Rattle.reader.specs.Calls.{Report}
+use Rattle.reader.specs.Calls.{Report, answer, written}
 use Rattle.bounds.specs.Calls.{short}
 use Rattle.reduction.specs.Reduction.{reducedFile}
 use Rattle.reduction.specs.declared.ReducedFile.{ReducedFile}
@@ -17,7 +18,7 @@ use Rattle.reduction.specs.declared.Compared.the-variants as compared
 -- The number and the values of each case of an answer.
 
 unfoldable pub reportReduced : ReducedFile → Report
-reportReduced (made.Written length regions) = record { number = 0; values = length ∷ regions ∷ [] }
+reportReduced (made.Written bytes regions) = record { number = 0; values = bytes ∷ regions ∷ [] }
 reportReduced (made.Refused n) = record { number = n; values = [] }
 
 -- yes is 1, no is 0
@@ -42,3 +43,17 @@ compareCauses first second =
 -- 1 exactly when the two reductions are equal, else 0
 unfoldable pub comparison : List ℕ → List ℕ → List ℕ
 comparison first second = cond (sameList (reducedFile first) (reducedFile second)) 1 0 ∷ []
+
+-- What the calls promise. The theorem of demand 3 (`DemandThree`) rests on these promises.
+
+-- the answer r of `reduce`
+abbrev pub ReduceAnswers : List ℕ → List ℕ → ReducedFile → Type 0
+ReduceAnswers file out r = reportReduced r ≡ answer (reduceCauses file out) (reducedCounts file)
+
+-- what it leaves in the output
+abbrev pub ReduceWrites : List ℕ → List ℕ → List ℕ → Type 0
+ReduceWrites file out new = new ≡ written (reduceCauses file out) (reducedFile file) out
+
+-- the answer r of `same`
+abbrev pub SameAnswers : List ℕ → List ℕ → Compared → Type 0
+SameAnswers first second r = reportCompared r ≡ answer (compareCauses first second) (comparison first second)

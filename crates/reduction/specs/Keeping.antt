@@ -32,8 +32,8 @@ Outward F i k = (i ≤ k) × (region F k .last ≤ region F i .last)
 abbrev pub Innermost : Family → ℕ → Type 0
 Innermost F k = (i : ℕ) → k < i → i < regionCount F → SameStretch F i k → ⊥
 
--- what is known where the stretches of a family are at hand: the first and the last peptide of each
-pub record Known (F : Family) (A B : List ℕ) : Type 0 where
+-- a family with its stretches: the first and the last peptide of each
+pub record WithStretches (F : Family) (A B : List ℕ) : Type 0 where
   pub wellFormed : WellFormed F
   pub firsts : (k : ℕ) → k < regionCount F → getD A k 0 ≡ firstAt F k
   pub lasts : (k : ℕ) → k < regionCount F → getD B k 0 ≡ lastAt F k
@@ -72,7 +72,7 @@ pub record Keeps (F : Family) (k v : ℕ) : Type 0 where
   pub less : v < totalAt F k
 
 -- Of the regions from the n-th on, the list holds the z of the kept stretch at its innermost region, and 0 at every other region.
-pub record Marked (F : Family) (C : List ℕ) (n : ℕ) : Type 0 where
+pub record KeptMarked (F : Family) (C : List ℕ) (n : ℕ) : Type 0 where
   pub kept : (k : ℕ) → n ≤ k → k < regionCount F → 1 ≤ getD C k 0 → Keeps F k (getD C k 0)
   pub every : (k v : ℕ) → n ≤ k → k < regionCount F → Keeps F k v → getD C k 0 ≡ v
 
@@ -134,6 +134,6 @@ pub record RunsAhead (F : Family) (X : List ℕ) (q e : ℕ) (A B Z : List ℕ) 
   pub lasts : regionCount F ≤ length B
   pub bounds : regionCount F ≤ length Z
 
--- whatever stretches are listed already
-abbrev pub Somehow : Family → ℕ → ℕ → List ℕ → List ℕ → List ℕ → Type 0
-Somehow F q n A B Z = (t : Range → Bool) × Gathered F t q n A B Z
+-- these n ranges are listed, with some choice of stretches
+abbrev pub SomeGathered : Family → ℕ → ℕ → List ℕ → List ℕ → List ℕ → Type 0
+SomeGathered F q n A B Z = (t : Range → Bool) × Gathered F t q n A B Z

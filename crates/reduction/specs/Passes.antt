@@ -5,7 +5,7 @@ use mathlib.Core.List.{List}
 use mathlib.Core.Logic.{_⊎_}
 use mathlib.Core.Path.{_≡_}
 use lib.ListN.{length, getD}
-use lib.Dec.{ltb}
+use lib.Dec.{eqb, leb, ltb}
 use Rattle.reader.specs.Family.{Family, familyOf, leaves, regionCount, region, peptidesUpTo}
 use Rattle.reader.specs.WellFormed.{WellFormed, ParentsBelow}
 use Rattle.bounds.specs.Ranges.{Peptides, rangesOf, rangeAt}
@@ -48,14 +48,14 @@ pub record Began (F : Family) (j before k : ℕ) (L : List ℕ) : Type 0 where
   pub more : before ≤ k
 
 -- a family with its parents
-pub record Known (F : Family) (P : List ℕ) : Type 0 where
+pub record WithParents (F : Family) (P : List ℕ) : Type 0 where
   pub formed : WellFormed F
   pub known : ParentsBelow F P (regionCount F)
   pub room : regionCount F ≤ length P
 
 -- what is known where the regions of leaf j end
 pub record Ending (F : Family) (P : List ℕ) (j sum c : ℕ) (H : List ℕ) : Type 0 where
-  pub family : Known F P
+  pub family : WithParents F P
   pub sums : sum ≡ peptidesUpTo F j
   pub opened : Open F j j H c
   pub room : regionCount F ≤ length H
@@ -79,7 +79,7 @@ pub record Ended (F : Family) (L H : List ℕ) : Type 0 where
 -- The live peptides, in one pass over the regions and the peptides.
 
 -- M is L with the bytes from one place to another written anew: 0 for the first `until` peptides, 1 for those after them
-pub record Marked (L M : List ℕ) (from to until : ℕ) : Type 0 where
+pub record LiveMarked (L M : List ℕ) (from to until : ℕ) : Type 0 where
   pub old : (p : ℕ) → p < from → getD M p 0 ≡ getD L p 0
   pub new : (p : ℕ) → from ≤ p → p < to → getD M p 0 ≡ cond (ltb p until) 0 1
 
@@ -121,19 +121,17 @@ pub record WithLives (F : Family) (L H M : List ℕ) : Type 0 where
   pub lives : LiveUpTo F (F .peptides) M
   pub bytes : F .peptides ≤ length M
 
--- the first live peptide from each peptide on is known, and there is room for the first ones of the regions
-pub record WithNexts (F : Family) (L H A C : List ℕ) : Type 0 where
+-- the first live peptide from each peptide on, and the last one up to each peptide, are known
+pub record WithNearest (F : Family) (L H A B : List ℕ) : Type 0 where
   pub ended : Ended F L H
   pub nexts : Nexts (F .peptides) (live (rangesOf F)) A
-  pub places : F .peptides + 1 < length A
-  pub room : regionCount F ≤ length C
-
--- the last live peptide up to each peptide is known, and there is room for the last ones of the regions
-pub record WithLasts (F : Family) (L H B C : List ℕ) : Type 0 where
-  pub ended : Ended F L H
   pub lasts : Lasts (F .peptides) (live (rangesOf F)) B
-  pub places : F .peptides + 1 < length B
-  pub room : regionCount F ≤ length C
+  pub places-after : F .peptides + 1 < length A
+  pub places-before : F .peptides < length B
+
+-- p if it is a peptide of a region with that z, 1 or more, and these ends; else 0
+abbrev pub within : ℕ → ℕ → ℕ → ℕ → ℕ
+within z low high p = cond (eqb z 0) 0 (cond (ltb low p) (cond (leb p high) p 0) 0)
 
 -- those of the first k regions are right
 abbrev pub FirstsUpTo : Family → ℕ → List ℕ → Type 0

@@ -1,9 +1,9 @@
 -- What the private functions of the reduction hand each other: the steps' results as lists, in file order.
-use Prim.Native.Nat.{ℕ, _+_, _≤_}
+use Prim.Native.Nat.{ℕ, _+_}
 use mathlib.Core.Bool.{cond}
 use mathlib.Core.List.{List, _++_, map}
 use mathlib.Core.Path.{_≡_}
-use lib.ListN.{length, drop}
+use lib.ListN.{length}
 use lib.Dec.{eqb}
 use Rattle.reader.specs.Lists.{tabulate}
 use Rattle.reader.specs.Family.{Family, familyOf}

@@ -1,17 +1,20 @@
 // The kept stretches of a family and, with the longest runs of dead peptides, the list of the reduced ranges.
-use reader::bytes::number_at;
+use reader::bytes::smaller;
+use reader::family::Peptide;
+use reader::family::peptide_count;
+use reader::family::region_count;
 use reader::family::region_of;
 ghost use mathlib.Core.Bool.{Bool, true, not, _&&_};
 ghost use lib.Dec.{eqb};
 ghost use mathlib.Core.Path.{_≡_};
-ghost use Prim.Native.Nat.{_+_, _-_, _<_, _≤_, min};
+ghost use Prim.Native.Nat.{_+_, _-_, _<_, _≤_};
 ghost use lib.ListN.{length, getD};
 ghost use Rattle.reader.specs.Family.{familyOf, regionCount};
 ghost use Rattle.reader.specs.WellFormed.{ParentsBelow};
 ghost use Rattle.bounds.specs.Ranges.{Range};
 ghost use Rattle.bounds.specs.Selections.{selected};
 ghost use Rattle.reduction.specs.Steps.{Parented, Stretched, Totalled, Listed};
-ghost use Rattle.reduction.specs.Keeping.{Known, sameEnds, firstAt, Weighed, WeighedBelow, TotalsBelow, keptBound, Marked, beginsRun, RunTo, Gathered, RunsAhead, Somehow};
+ghost use Rattle.reduction.specs.Keeping.{WithStretches, sameEnds, firstAt, Weighed, WeighedBelow, TotalsBelow, keptBound, KeptMarked, beginsRun, RunTo, Gathered, RunsAhead, SomeGathered};
 
 // Going outward from a region: the smallest z of its stretch, and the smallest z of the other stretches. Where there is
 // no other, 65,535 stands for it: a kept z is less than its room, a 16-bit number, and so less than 65,535.
@@ -26,12 +29,6 @@ fn nth(numbers: &[u16], k: u16) -> u16
 {
     let i = k as usize;
     if i < numbers.len() { numbers[i] } else { 0 }
-}
-
-fn smaller(a: u16, b: u16) -> u16
-    ensures { λ r. ⌜ r ≡ min a b ⌝ }
-{
-    if a < b { a } else { b }
 }
 
 // Whether two regions have the same first and last live peptides.
@@ -55,7 +52,7 @@ fn weigh_region(
     around: &[u16],
     k: u16,
 ) -> Weights
-    requires { ⌜ Known (familyOf (now file)) (now firsts) (now lasts) ⌝ }
+    requires { ⌜ WithStretches (familyOf (now file)) (now firsts) (now lasts) ⌝ }
     requires { ⌜ ParentsBelow (familyOf (now file)) (now parents) (regionCount (familyOf (now file))) ⌝ }
     requires { ⌜ WeighedBelow (familyOf (now file)) (now least) (now around) k ⌝ }
     requires { ⌜ k < regionCount (familyOf (now file)) ⌝ }
@@ -94,13 +91,13 @@ fn weigh(
     least: &mut [u16],
     around: &mut [u16],
 )
-    requires { ⌜ Known (familyOf (now file)) (now firsts) (now lasts) ⌝ }
+    requires { ⌜ WithStretches (familyOf (now file)) (now firsts) (now lasts) ⌝ }
     requires { ⌜ ParentsBelow (familyOf (now file)) (now parents) (regionCount (familyOf (now file))) ⌝ }
     requires { ⌜ regionCount (familyOf (now file)) ≤ length (now least) ⌝ }
     requires { ⌜ regionCount (familyOf (now file)) ≤ length (now around) ⌝ }
     ensures { λ _. ⌜ WeighedBelow (familyOf (now (file .entry))) (now (least .exit)) (now (around .exit)) (regionCount (familyOf (now (file .entry)))) ⌝ }
 {
-    let regions = number_at(file, 8);
+    let regions = region_count(file);
     let mut k = 0;
     while k < regions {
         let weights = weigh_region(file, parents, firsts, lasts, least, around, k);
@@ -157,14 +154,14 @@ fn mark_kept(
     around: &[u16],
     kept: &mut [u16],
 )
-    requires { ⌜ Known (familyOf (now file)) (now firsts) (now lasts) ⌝ }
+    requires { ⌜ WithStretches (familyOf (now file)) (now firsts) (now lasts) ⌝ }
     requires { ⌜ TotalsBelow (familyOf (now file)) (now totals) ⌝ }
     requires { ⌜ WeighedBelow (familyOf (now file)) (now least) (now around) (regionCount (familyOf (now file))) ⌝ }
     requires { ⌜ regionCount (familyOf (now file)) ≤ length (now kept) ⌝ }
-    ensures { λ _. ⌜ Marked (familyOf (now (file .entry))) (now (kept .exit)) 0 ⌝ }
+    ensures { λ _. ⌜ KeptMarked (familyOf (now (file .entry))) (now (kept .exit)) 0 ⌝ }
 {
     let mut next = 0;
-    let mut k = number_at(file, 8);
+    let mut k = region_count(file);
     while k != 0 {
         k -= 1;
         kept[k as usize] = kept_bound(totals, firsts, lasts, least, around, next, k);
@@ -175,9 +172,10 @@ fn mark_kept(
 }
 
 // Whether a peptide is live; none is at 0 or past the end.
-fn is_live(live: &[u8], p: u16) -> bool
-    ensures { λ r. ⌜ r ≡ selected (now (live .entry)) p ⌝ }
+fn is_live(live: &[u8], peptide: Peptide) -> bool
+    ensures { λ r. ⌜ r ≡ selected (now (live .entry)) (peptide .0) ⌝ }
 {
+    let p = peptide.0;
     if p == 0 {
         return false;
     }
@@ -185,58 +183,65 @@ fn is_live(live: &[u8], p: u16) -> bool
     if i < live.len() { live[i] == 1 } else { false }
 }
 
-// Whether a longest run of dead peptides begins at p.
-fn begins_run(live: &[u8], p: u16) -> bool
-    ensures { λ r. ⌜ r ≡ beginsRun (selected (now (live .entry))) p ⌝ }
+// Whether a longest run of dead peptides begins at the peptide.
+fn begins_run(live: &[u8], peptide: Peptide) -> bool
+    ensures { λ r. ⌜ r ≡ beginsRun (selected (now (live .entry))) (peptide .0) ⌝ }
 {
-    if is_live(live, p) {
+    if is_live(live, peptide) {
         return false;
     }
-    if p <= 1 { p == 1 } else { is_live(live, p - 1) }
-}
-
-// The last peptide of the run that begins at p.
-fn run_end(live: &[u8], p: u16, peptides: u16) -> u16
-    requires { ⌜ p ≤ peptides ⌝ }
-    requires { ⌜ beginsRun (selected (now live)) p ≡ true ⌝ }
-    ensures { λ r. ⌜ RunTo peptides (selected (now (live .entry))) p r ⌝ }
-{
-    let mut last = p;
-    while last < peptides {
-        if is_live(live, last + 1) {
-            return last;
-        }
-        last += 1;
+    let p = peptide.0;
+    if p <= 1 {
+        p == 1
+    } else {
+        is_live(live, Peptide(p - 1))
     }
-    last
 }
 
-// Lists the runs that begin from `begin` on, before `end`, after the `count` ranges listed so far; returns how many there
-// are then. It holds for any choice of stretches listed so far, as long as these begin before `begin`.
+// The last peptide of the run that begins at the first.
+fn run_end(live: &[u8], first: Peptide, peptides: u16) -> Peptide
+    requires { ⌜ first .0 ≤ peptides ⌝ }
+    requires { ⌜ beginsRun (selected (now live)) (first .0) ≡ true ⌝ }
+    ensures { λ r. ⌜ RunTo peptides (selected (now (live .entry))) (first .0) (r .0) ⌝ }
+{
+    let mut last = first.0;
+    while last < peptides {
+        let next = last + 1;
+        if is_live(live, Peptide(next)) {
+            return Peptide(last);
+        }
+        last = next;
+    }
+    Peptide(last)
+}
+
+// Lists the runs that begin after the first peptide named, and up to the second, after the `count` ranges listed so far;
+// returns how many there are then. It holds for any choice of stretches listed so far, if these begin no later than the
+// first peptide named.
 fn append_runs(
     file: &[u8],
     live: &[u8],
-    begin: u16,
-    end: u16,
+    after: Peptide,
+    upto: Peptide,
     from: &mut [u16],
     to: &mut [u16],
     bounds: &mut [u16],
     count: u16,
 ) -> u16
-    requires { ⌜ RunsAhead (familyOf (now file)) (now live) begin end (now from) (now to) (now bounds) ⌝ }
-    requires { ⌜ Somehow (familyOf (now file)) begin count (now from) (now to) (now bounds) ⌝ }
-    ensures { λ r. ⌜ ((t : Range → Bool) → Gathered (familyOf (now (file .entry))) t begin count (now (from .entry)) (now (to .entry)) (now (bounds .entry)) → Gathered (familyOf (now (file .entry))) t end r (now (from .exit)) (now (to .exit)) (now (bounds .exit))) ⌝ }
+    requires { ⌜ RunsAhead (familyOf (now file)) (now live) (after .0 + 1) (upto .0 + 1) (now from) (now to) (now bounds) ⌝ }
+    requires { ⌜ SomeGathered (familyOf (now file)) (after .0 + 1) count (now from) (now to) (now bounds) ⌝ }
+    ensures { λ r. ⌜ ((t : Range → Bool) → Gathered (familyOf (now (file .entry))) t (after .0 + 1) count (now (from .entry)) (now (to .entry)) (now (bounds .entry)) → Gathered (familyOf (now (file .entry))) t (upto .0 + 1) r (now (from .exit)) (now (to .exit)) (now (bounds .exit))) ⌝ }
 {
-    let peptides = number_at(file, 4);
+    let peptides = peptide_count(file);
+    let end = upto.0;
     let mut n = count;
-    let mut p = begin;
+    let mut p = after.0;
     while p < end {
-        let first = p;
         p += 1;
-        if begins_run(live, first) {
-            let last = run_end(live, first, peptides);
-            from[n as usize] = first;
-            to[n as usize] = last;
+        if begins_run(live, Peptide(p)) {
+            let last = run_end(live, Peptide(p), peptides);
+            from[n as usize] = p;
+            to[n as usize] = last.0;
             bounds[n as usize] = 0;
             n += 1;
         }
@@ -256,32 +261,32 @@ fn gather(
     to: &mut [u16],
     bounds: &mut [u16],
 ) -> u16
-    requires { ⌜ Known (familyOf (now file)) (now firsts) (now lasts) ⌝ }
-    requires { ⌜ Marked (familyOf (now file)) (now kept) 0 ⌝ }
+    requires { ⌜ WithStretches (familyOf (now file)) (now firsts) (now lasts) ⌝ }
+    requires { ⌜ KeptMarked (familyOf (now file)) (now kept) 0 ⌝ }
     requires { ⌜ RunsAhead (familyOf (now file)) (now live) 1 (familyOf (now file) .peptides + 1) (now from) (now to) (now bounds) ⌝ }
     ensures { λ r. ⌜ Listed (now (file .entry)) r (now (from .exit)) (now (to .exit)) (now (bounds .exit)) ⌝ }
 {
-    let peptides = number_at(file, 4);
-    let regions = number_at(file, 8);
+    let peptides = peptide_count(file);
+    let regions = region_count(file);
     let mut n = 0;
-    let mut next = 1;
+    let mut passed = Peptide(0);
     let mut k = 0;
     while k < regions {
         let here = k;
         k += 1;
         let z = nth(kept, here);
         if z != 0 {
-            let first = nth(firsts, here);
+            let first = Peptide(nth(firsts, here));
             let last = nth(lasts, here);
-            n = append_runs(file, live, next, first + 1, from, to, bounds, n);
-            from[n as usize] = first;
+            n = append_runs(file, live, passed, first, from, to, bounds, n);
+            from[n as usize] = first.0;
             to[n as usize] = last;
             bounds[n as usize] = z;
             n += 1;
-            next = first + 1;
+            passed = first;
         }
     }
-    append_runs(file, live, next, peptides + 1, from, to, bounds, n)
+    append_runs(file, live, passed, Peptide(peptides), from, to, bounds, n)
 }
 
 // The reduced ranges in file order: the first peptide, the last one and the bound of each; returns how many there are.

@@ -5,8 +5,8 @@ mod write;
 
 use keep::list_reduced;
 use reader::Checked;
-use reader::bytes::number_at;
 use reader::bytes::same_bytes;
+use reader::family::peptide_count;
 use stretch::find_stretches;
 use write::write_reduced;
 ghost use mathlib.Core.Path.{_≡_};
@@ -15,10 +15,9 @@ ghost use lib.ListN.{length};
 ghost use Rattle.reader.specs.Lists.{sameList};
 ghost use Rattle.reader.specs.Family.{familyOf};
 ghost use Rattle.reader.specs.Causes.{Accepted};
-ghost use Rattle.reader.specs.Calls.{answer, written};
 ghost use Rattle.reduction.specs.Reduction.{reducedFile};
 ghost use Rattle.reduction.specs.Steps.{Begins, liveBytes, Parented, Totalled};
-ghost use Rattle.reduction.specs.Calls.{reportReduced, reduceCauses, reducedCounts, reportCompared, compareCauses, comparison};
+ghost use Rattle.reduction.specs.Calls.{ReduceAnswers, ReduceWrites, SameAnswers};
 ghost use Rattle.reduction.specs.Writing.{Wrote};
 ghost use Rattle.reduction.specs.FileChecks.{FileJudged};
 
@@ -63,7 +62,7 @@ fn live_totals(file: &[u8], live: &[u8], totals: &mut [u16])
     requires { ⌜ 8191 ≤ length (now totals) ⌝ }
     ensures { λ _. ⌜ Totalled (now (file .entry)) (now (totals .exit)) ⌝ }
 {
-    let m = number_at(file, 4) as usize;
+    let m = peptide_count(file) as usize;
     bounds::inside_totals(file, &live[0..m], totals);
 }
 
@@ -98,8 +97,8 @@ fn reduce_accepted(file: &[u8], parents: &[u16], out: &mut [u8]) -> Size
 
 // Writes the reduced file at the start of the output, which must be as long as the family. A declined call writes nothing.
 pub fn reduce(file: &[u8], out: &mut [u8]) -> ReducedFile
-    ensures { λ r. ⌜ reportReduced r ≡ answer (reduceCauses (now (file .entry)) (now (out .entry))) (reducedCounts (now (file .entry))) ⌝ }
-    ensures { λ _. ⌜ now (out .exit) ≡ written (reduceCauses (now (file .entry)) (now (out .entry))) (reducedFile (now (file .entry))) (now (out .entry)) ⌝ }
+    ensures { λ r. ⌜ ReduceAnswers (now (file .entry)) (now (out .entry)) r ⌝ }
+    ensures { λ _. ⌜ ReduceWrites (now (file .entry)) (now (out .entry)) (now (out .exit)) ⌝ }
 {
     let mut parents = [0u16; 8191];
     let cause = file_cause(file, &mut parents);
@@ -133,7 +132,7 @@ fn same_reduced(first: &[u8], first_parents: &[u16], second: &[u8], second_paren
 
 // Whether two families have the same reduced file, which they have exactly when they have the same curves.
 pub fn same(first: &[u8], second: &[u8]) -> Compared
-    ensures { λ r. ⌜ reportCompared r ≡ answer (compareCauses (now (first .entry)) (now (second .entry))) (comparison (now (first .entry)) (now (second .entry))) ⌝ }
+    ensures { λ r. ⌜ SameAnswers (now (first .entry)) (now (second .entry)) r ⌝ }
 {
     let mut first_parents = [0u16; 8191];
     let first_cause = file_cause(first, &mut first_parents);

@@ -1,7 +1,7 @@
 // The file of the reduced ranges, written at the start of the output: where leaves end, how many end up to each peptide,
 // and from these the header, the leaf lengths and the regions.
 use crate::Size;
-use reader::bytes::number_at;
+use reader::family::peptide_count;
 ghost use mathlib.Core.Path.{_≡_};
 ghost use mathlib.Core.List.{[], _∷_, _++_};
 ghost use Prim.Native.Nat.{ℕ, _+_, _*_, _<_, _≤_};
@@ -155,7 +155,7 @@ pub(crate) fn write_reduced(
     requires { ⌜ length (now file) ≤ length (now out) ⌝ }
     ensures { λ r. ⌜ Wrote (now (file .entry)) (now (out .entry)) (now (out .exit)) (r .bytes) (r .regions) ⌝ }
 {
-    let m = number_at(file, 4);
+    let m = peptide_count(file);
     let mut ends = [0u8; 4097];
     mark_ends(m, n, from, to, &mut ends);
     let mut counts = [0u16; 4097];

@@ -14,13 +14,11 @@ file-cause-requires c κs = search needs
 
 returns : tie.Need-returns
 returns c =
-    let r = reduce-refused (now (c .before .before .before .before .before .before .args .file)) (now (c .before .before .before .before .before .before .args .out)) (c .before .before .file-cause .result) (c .before .before .file-cause .ensures .tested) (c .if1 .taken) in
-    (r .answered, r .left)
+    reduce-refused (now (c .before .before .before .before .before .before .args .file)) (now (c .before .before .before .before .before .before .args .out)) (c .before .before .file-cause .result) (c .before .before .file-cause .ensures .tested) (c .if1 .taken)
 
 returns-2 : tie.Need-returns-2
 returns-2 c =
-    let r = reduce-short (now (c .before .before .before .before .before .before .before .args .file)) (now (c .before .before .before .before .before .before .before .args .out)) (sym (c .before .before .before .file-cause .ensures .tested) ∙ c .before .if1 .left) (c .if2 .taken) in
-    (r .answered, r .left)
+    reduce-short (now (c .before .before .before .before .before .before .before .args .file)) (now (c .before .before .before .before .before .before .before .args .out)) (sym (c .before .before .before .file-cause .ensures .tested) ∙ c .before .if1 .left) (c .if2 .taken)
 
 slice-aggregate-reduce-accepted : tie.Need-slice-aggregate-reduce-accepted
 slice-aggregate-reduce-accepted c = search needs
@@ -33,10 +31,8 @@ same-length c = search needs
 
 returns-3 : tie.Need-returns-3
 returns-3 c =
-    let r =
     reduce-written (now (c .before .before .before .before .before .before .before .before .before .before .before .before .args .file)) (now (c .before .before .before .before .before .before .before .before .before .before .before .before .args .out)) (sym (c .before .before .before .before .before .before .before .before .file-cause .ensures .tested) ∙ c .before .before .before .before .before .before .if1 .left) (c .before .before .before .before .before .if2 .left)
-    (c .before .before .reduce-accepted .last .1 .1 .0) (c .before .before .reduce-accepted .result .bytes) (c .before .before .reduce-accepted .result .regions) (c .before .before .reduce-accepted .ensures) in
-    (r .answered, r .left)
+    (c .before .before .reduce-accepted .last .1 .1 .0) (c .before .before .reduce-accepted .result .bytes) (c .before .before .reduce-accepted .result .regions) (c .before .before .reduce-accepted .ensures)
 
 pub reduce-spec : {M : Type 1} → statement M
 reduce-spec =

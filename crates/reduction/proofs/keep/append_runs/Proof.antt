@@ -1,13 +1,11 @@
--- The loop has listed the runs that begin before p.
+-- The loop has listed the runs that begin up to p.
 use denote.Ref.{now}
-use Prim.Native.Nat.{ℕ, _-_, _≤_, _<_}
+use Prim.Native.Nat.{ℕ, _+_, _-_, _≤_, _<_}
 use mathlib.Core.Bool.{Bool}
 use mathlib.Core.Path.{_≡_, refl, sym, _∙_, subst}
 use native.Mathlib.Omega.{arith}
 use lib.ListN.{length, length-set}
-use Rattle.reader.specs.Bytes.{numberAt}
 use Rattle.reader.specs.Family.{familyOf, regionCount}
-use Rattle.reader.proofs.Parsed.{peptides-read}
 use Rattle.bounds.specs.Ranges.{Range, rangesOf}
 use Rattle.bounds.specs.Selections.{selected}
 use Rattle.reduction.specs.Reduction.{live}
@@ -19,33 +17,33 @@ use Rattle.reduction.proofs.keep.append_runs.Statement.{statement}
 use Rattle.reduction.proofs.keep.append_runs.Tie as tie
 
 abbrev Inv-loop : tie.InvT-loop
-Inv-loop file live begin end from₀ to₀ bounds₀ count peptides n₀ p₀ from to bounds n p =
-    (begin ≤ p) × (p ≤ end) × (peptides ≡ numberAt file 4) × (length from ≡ length from₀) × (length to ≡ length to₀) × (length bounds ≡ length bounds₀)
-    × ((t : Range → Bool) → Gathered (familyOf file) t begin count from₀ to₀ bounds₀ → Gathered (familyOf file) t p n from to bounds)
+Inv-loop file live from₀ to₀ bounds₀ count peptides end n₀ p₀ from to bounds n p =
+    (p₀ ≤ p) × (p ≤ end) × (peptides ≡ familyOf file .peptides) × (length from ≡ length from₀) × (length to ≡ length to₀) × (length bounds ≡ length bounds₀)
+    × ((t : Range → Bool) → Gathered (familyOf file) t (p₀ + 1) count from₀ to₀ bounds₀ → Gathered (familyOf file) t (p + 1) n from to bounds)
 
 abbrev μ-loop : tie.MeasureT-loop
-μ-loop file live begin end from₀ to₀ bounds₀ count peptides n₀ p₀ from to bounds n p = end - p
+μ-loop file live from₀ to₀ bounds₀ count peptides end n₀ p₀ from to bounds n p = end - p
 
 -- the run that is found
-its-run : (c : tie.After-run-end Inv-loop μ-loop) → DeadRun (familyOf (now (c .before .before .before .before .before .before .before .before .before .before .before .args .file)) .peptides) (live (rangesOf (familyOf (now (c .before .before .before .before .before .before .before .before .before .before .before .args .file))))) (c .before .before .before .before .loop .p) (c .run-end .result)
+its-run : (c : tie.After-run-end Inv-loop μ-loop) → DeadRun (familyOf (now (c .before .before .before .before .before .before .before .before .before .before .before .args .file)) .peptides) (live (rangesOf (familyOf (now (c .before .before .before .before .before .before .before .before .before .before .before .args .file))))) (c .before .before .before .before .loop .p + 1) (c .run-end .result .0)
 its-run c =
     let s = now (c .before .before .before .before .before .before .before .before .before .before .before .args .file) in
     let pre = c .before .before .before .before .before .before .before .before .before .before .before .pre .0 in
     let inv = c .before .before .before .before .loop .inv in
-    let m = inv .2 ∙ sym (peptides-read s) in
-    run-here (familyOf s) (now (c .before .before .before .before .before .before .before .before .before .before .before .args .live)) (pre .lives) (c .before .before .before .before .loop .p) (c .run-end .result) (omega (arith, pre .positive, inv .0)) (sym (c .before .before .begins-run .ensures) ∙ c .before .if1 .taken)
-    (subst (λ (i : ℕ). RunTo i (selected (now (c .before .before .before .before .before .before .before .before .before .before .before .args .live))) (c .before .before .before .before .loop .p) (c .run-end .result)) m (c .run-end .ensures))
+    let m = inv .2 in
+    run-here (familyOf s) (now (c .before .before .before .before .before .before .before .before .before .before .before .args .live)) (pre .lives) (c .before .before .before .before .loop .p + 1) (c .run-end .result .0) (omega (arith, pre .positive, inv .0)) (sym (c .before .before .begins-run .ensures) ∙ c .before .if1 .taken)
+    (subst (λ (i : ℕ). RunTo i (selected (now (c .before .before .before .before .before .before .before .before .before .before .before .args .live))) (c .before .before .before .before .loop .p + 1) (c .run-end .result .0)) m (c .run-end .ensures))
 
 room : (c : tie.After-run-end Inv-loop μ-loop) → c .before .before .before .before .loop .n < regionCount (familyOf (now (c .before .before .before .before .before .before .before .before .before .before .before .args .file)))
 room c =
     let (t, g) = c .before .before .before .before .before .before .before .before .before .before .before .pre .1 in
-    run-room (familyOf (now (c .before .before .before .before .before .before .before .before .before .before .before .args .file))) t (c .before .before .before .before .loop .p) (c .before .before .before .before .loop .n) _ _ _ (c .before .before .before .before .loop .inv .6 t g) (c .run-end .result) (its-run c)
+    run-room (familyOf (now (c .before .before .before .before .before .before .before .before .before .before .before .args .file))) t (c .before .before .before .before .loop .p + 1) (c .before .before .before .before .loop .n) _ _ _ (c .before .before .before .before .loop .inv .6 t g) (c .run-end .result .0) (its-run c)
 
-number-at-requires : tie.Need-number-at-requires Inv-loop μ-loop
-number-at-requires c κs = search needs
+peptide-count-requires : tie.Need-peptide-count-requires Inv-loop μ-loop
+peptide-count-requires c κs = search needs
 
 loop-holds : tie.Need-loop-holds Inv-loop μ-loop
-loop-holds c = (omega arith, c .before .before .before .before .before .before .pre .0 .order, c .number-at .ensures, refl, refl, refl, λ t g. g)
+loop-holds c = (omega arith, omega (arith, c .before .before .before .before .before .before .pre .0 .order), c .peptide-count .ensures, refl, refl, refl, λ t g. g)
 
 add-p : tie.Need-add-p Inv-loop μ-loop
 add-p c = search needs
@@ -56,7 +54,7 @@ begins-run-requires c κs = search needs
 run-end-requires : tie.Need-run-end-requires Inv-loop μ-loop
 run-end-requires c κs =
     let inv = c .before .before .before .loop .inv in
-    (omega (arith, inv .2, peptides-read (now (c .before .before .before .before .before .before .before .before .before .before .args .file)), c .before .before .before .before .before .before .before .before .before .before .pre .0 .small, c .before .before .loop-test .taken), sym (c .before .begins-run .ensures) ∙ c .if1 .taken)
+    (omega (arith, inv .2, c .before .before .before .before .before .before .before .before .before .before .pre .0 .small, c .before .before .loop-test .taken), sym (c .before .begins-run .ensures) ∙ c .if1 .taken)
 
 cast-from : tie.Need-cast-from Inv-loop μ-loop
 cast-from c = omega (arith, room c, c .before .before .before .before .before .before .before .before .before .before .before .pre .0 .few)
@@ -102,7 +100,7 @@ loop-again c =
       simp length-set (inv .4),
       simp length-set (inv .5),
       λ t g.
-          run-more (familyOf (now (c .before .before .before .before .before .before .before .before .before .before .before .args .file))) t (c .before .before .before .before .loop .p) (c .before .before .before .before .loop .n) (c .before .before .before .before .loop .from) (c .before .before .before .before .loop .to) (c .before .before .before .before .loop .bounds) (inv .6 t g) (c .run-end .result) (its-run c)
+          run-more (familyOf (now (c .before .before .before .before .before .before .before .before .before .before .before .args .file))) t (c .before .before .before .before .loop .p + 1) (c .before .before .before .before .loop .n) (c .before .before .before .before .loop .from) (c .before .before .before .before .loop .to) (c .before .before .before .before .loop .bounds) (inv .6 t g) (c .run-end .result .0) (its-run c)
           (omega (arith, pre .firsts, inv .3)) (omega (arith, pre .lasts, inv .4)) (omega (arith, pre .bounds, inv .5)),
     )
 
@@ -119,7 +117,7 @@ loop-again-2 c =
       inv .3,
       inv .4,
       inv .5,
-      λ t g. no-run F t (c .before .before .before .loop .p) (c .before .before .before .loop .n) _ _ _ (inv .6 t g) (no-run-here F (now (c .before .before .before .before .before .before .before .before .before .before .args .live)) (c .before .before .before .before .before .before .before .before .before .before .pre .0 .lives) (c .before .before .before .loop .p) (sym (c .before .begins-run .ensures) ∙ c .if1 .left)),
+      λ t g. no-run F t (c .before .before .before .loop .p + 1) (c .before .before .before .loop .n) _ _ _ (inv .6 t g) (no-run-here F (now (c .before .before .before .before .before .before .before .before .before .before .args .live)) (c .before .before .before .before .before .before .before .before .before .before .pre .0 .lives) (c .before .before .before .loop .p + 1) (sym (c .before .begins-run .ensures) ∙ c .if1 .left)),
     )
 
 same-length : tie.Need-same-length Inv-loop μ-loop
@@ -134,7 +132,7 @@ same-length-3 c = search needs
 returns : tie.Need-returns Inv-loop μ-loop
 returns c t g =
     let inv = c .before .loop .inv in
-    let end : c .before .loop .p ≡ c .before .before .before .before .before .before .before .before .args .end = omega (arith, inv .1, c .loop-test .left) in
+    let end : c .before .loop .p + 1 ≡ c .before .before .before .before .before .before .before .before .args .upto .0 + 1 = omega (arith, inv .1, c .loop-test .left) in
     subst (λ (q : ℕ). Gathered (familyOf (now (c .before .before .before .before .before .before .before .before .args .file))) t q (c .before .loop .n) (c .before .loop .from) (c .before .loop .to) (c .before .loop .bounds)) end (inv .6 t g)
 
 pub append-runs-spec : {M : Type 1} → statement M
@@ -143,7 +141,7 @@ append-runs-spec =
     (tie.spec
     Inv-loop
     μ-loop
-    number-at-requires
+    peptide-count-requires
     loop-holds
     add-p
     begins-run-requires

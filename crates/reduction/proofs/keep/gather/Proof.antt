@@ -1,12 +1,10 @@
--- The loop has listed the kept stretches of the first k regions and the runs that begin before `next`.
+-- The loop has listed the kept stretches of the first k regions and the runs that begin up to the last peptide passed.
 use denote.Ref.{now}
 use Prim.Native.Nat.{_+_, _-_, _≤_, _<_}
 use mathlib.Core.Path.{_≡_, refl, sym, _∙_}
 use native.Mathlib.Omega.{arith}
 use lib.ListN.{length, getD, length-set}
-use Rattle.reader.specs.Bytes.{numberAt}
 use Rattle.reader.specs.Family.{familyOf, regionCount}
-use Rattle.reader.proofs.Parsed.{peptides-read, regions-read}
 use Rattle.reduction.specs.Keeping.{firstAt, lastAt, ofFirst, Passed, Gathered}
 use Rattle.reduction.proofs.Gathering.{gathers-start, passed-start, passed-skip, skip-region, passed-place, place-room, place-more, listed-all}
 use borrow.Author.Needs.{needs}
@@ -14,16 +12,16 @@ use Rattle.reduction.proofs.keep.gather.Statement.{statement}
 use Rattle.reduction.proofs.keep.gather.Tie as tie
 
 abbrev Inv-loop : tie.InvT-loop
-Inv-loop file live firsts lasts kept from₀ to₀ bounds₀ peptides regions n₀ next₀ k₀ from to bounds n next k =
-    (k ≤ regions) × (peptides ≡ numberAt file 4) × (regions ≡ numberAt file 8)
+Inv-loop file live firsts lasts kept from₀ to₀ bounds₀ peptides regions n₀ passed₀ k₀ from to bounds n passed k =
+    (k ≤ regions) × (peptides ≡ familyOf file .peptides) × (regions ≡ regionCount (familyOf file))
     × (length from ≡ length from₀) × (length to ≡ length to₀) × (length bounds ≡ length bounds₀)
-    × Passed (familyOf file) kept k next × Gathered (familyOf file) (ofFirst (familyOf file) kept k) next n from to bounds
+    × Passed (familyOf file) kept k (passed .0 + 1) × Gathered (familyOf file) (ofFirst (familyOf file) kept k) (passed .0 + 1) n from to bounds
 
 abbrev μ-loop : tie.MeasureT-loop
-μ-loop file live firsts lasts kept from₀ to₀ bounds₀ peptides regions n₀ next₀ k₀ from to bounds n next k = regions - k
+μ-loop file live firsts lasts kept from₀ to₀ bounds₀ peptides regions n₀ passed₀ k₀ from to bounds n passed k = regions - k
 
 here : (c : tie.In-loop Inv-loop μ-loop) → c .before .loop .k < regionCount (familyOf (now (c .before .before .before .before .before .before .before .before .before .before .before .before .args .file)))
-here c = omega (arith, regions-read (now (c .before .before .before .before .before .before .before .before .before .before .before .before .args .file)), c .loop-test .taken, c .before .loop .inv .2)
+here c = omega (arith, c .loop-test .taken, c .before .loop .inv .2)
 
 -- the region is that of a kept stretch
 is-kept : (c : tie.After-nth3 Inv-loop μ-loop) → 1 ≤ getD (now (c .before .before .before .before .before .before .before .before .before .before .before .before .before .before .before .before .args .kept)) (c .before .before .before .before .before .loop .k) 0
@@ -51,20 +49,20 @@ room c =
     place-room (pre .0 .wellFormed) C (pre .1 .0) k (c .append-runs .result) (l .0) (l .1 .0) (l .1 .1 .0) (here (c .before .before .before .before .before .before .before .before)) (is-kept (c .before .before .before .before)) (c .before .before .before .before .before .nth2 .result) (lastAt F k) (getD C k 0) (first-is (c .before .before .before .before)) refl refl
     (c .append-runs .ensures (ofFirst F C k) (c .before .before .before .before .before .before .before .before .before .loop .inv .7))
 
-number-at-requires : tie.Need-number-at-requires Inv-loop μ-loop
-number-at-requires c κs = search needs
+peptide-count-requires : tie.Need-peptide-count-requires Inv-loop μ-loop
+peptide-count-requires c κs = search needs
 
-number-at-requires-2 : tie.Need-number-at-requires-2 Inv-loop μ-loop
-number-at-requires-2 c κs = search needs
+region-count-requires : tie.Need-region-count-requires Inv-loop μ-loop
+region-count-requires c κs = search needs
 
 loop-holds : tie.Need-loop-holds Inv-loop μ-loop
 loop-holds c =
     let pre = c .before .before .before .before .before .before .before .before .before .before .pre in
     let C = now (c .before .before .before .before .before .before .before .before .before .before .args .kept) in
-    (omega arith, c .before .number-at .ensures, c .number-at2 .ensures, refl, refl, refl, passed-start (pre .0 .wellFormed) C (pre .1 .0), gathers-start (pre .0 .wellFormed) C (pre .1 .0) _ _ _)
+    (omega arith, c .before .peptide-count .ensures, c .region-count .ensures, refl, refl, refl, passed-start (pre .0 .wellFormed) C (pre .1 .0), gathers-start (pre .0 .wellFormed) C (pre .1 .0) _ _ _)
 
 add-k : tie.Need-add-k Inv-loop μ-loop
-add-k c = omega (arith, c .before .before .number-at2 .ok, c .loop-test .taken)
+add-k c = omega (arith, c .before .before .region-count .ok, c .loop-test .taken)
 
 nth-requires : tie.Need-nth-requires Inv-loop μ-loop
 nth-requires c κs = search needs
@@ -74,9 +72,6 @@ nth-requires-2 c κs = search needs
 
 nth-requires-3 : tie.Need-nth-requires-3 Inv-loop μ-loop
 nth-requires-3 c κs = search needs
-
-add-append-runs : tie.Need-add-append-runs Inv-loop μ-loop
-add-append-runs c = omega (arith, passed-it c .small, c .before .before .before .before .before .before .before .before .before .before .before .before .before .before .before .before .pre .0 .wellFormed .peptides-most)
 
 append-runs-requires : tie.Need-append-runs-requires Inv-loop μ-loop
 append-runs-requires c κs =
@@ -127,9 +122,6 @@ slice-write-bounds c = omega (arith, room (c .before .before .before .before .be
 add-n : tie.Need-add-n Inv-loop μ-loop
 add-n c = omega (arith, room (c .before .before .before .before .before .before), c .before .before .before .before .before .before .before .before .before .before .before .before .before .before .before .before .before .before .before .before .before .before .before .before .before .before .pre .1 .1 .few)
 
-add-next : tie.Need-add-next Inv-loop μ-loop
-add-next c = omega (arith, passed-it (c .before .before .before .before .before .before .before .before .before .before) .small, c .before .before .before .before .before .before .before .before .before .before .before .before .before .before .before .before .before .before .before .before .before .before .before .before .before .before .pre .0 .wellFormed .peptides-most)
-
 loop-less : tie.Need-loop-less Inv-loop μ-loop
 loop-less c = omega (arith, c .before .before .before .before .before .before .before .before .before .before .before .before .before .before .loop-test .taken)
 
@@ -170,14 +162,9 @@ loop-again-2 c =
       inv .3,
       inv .4,
       inv .5,
-      passed-skip (pre .0 .wellFormed) C (pre .1 .0) k (c .before .before .before .loop .next) (inv .6),
-      skip-region (pre .0 .wellFormed) C (pre .1 .0) k (c .before .before .before .loop .next) (c .before .before .before .loop .n) _ _ _ (here (c .before .before)) (inv .7) (sym (c .before .nth .ensures) ∙ c .if1 .left),
+      passed-skip (pre .0 .wellFormed) C (pre .1 .0) k (c .before .before .before .loop .passed .0 + 1) (inv .6),
+      skip-region (pre .0 .wellFormed) C (pre .1 .0) k (c .before .before .before .loop .passed .0 + 1) (c .before .before .before .loop .n) _ _ _ (here (c .before .before)) (inv .7) (sym (c .before .nth .ensures) ∙ c .if1 .left),
     )
-
-add-append-runs-2 : tie.Need-add-append-runs-2 Inv-loop μ-loop
-add-append-runs-2 c =
-    let s = now (c .before .before .before .before .before .before .before .before .before .before .before .before .args .file) in
-    omega (arith, c .before .loop .inv .1, peptides-read s, c .before .before .before .before .before .before .before .before .before .before .before .before .pre .0 .wellFormed .peptides-most)
 
 append-runs-requires-2 : tie.Need-append-runs-requires-2 Inv-loop μ-loop
 append-runs-requires-2 c κs =
@@ -187,8 +174,8 @@ append-runs-requires-2 c κs =
       record {
         lives = ahead .lives;
         positive = inv .6 .positive;
-        order = omega (arith, inv .6 .small, inv .1, peptides-read s);
-        small = omega (arith, inv .1, peptides-read s);
+        order = omega (arith, inv .6 .small, inv .1);
+        small = omega (arith, inv .1);
         few = ahead .few;
         firsts = omega (arith, ahead .firsts, inv .3);
         lasts = omega (arith, ahead .lasts, inv .4);
@@ -214,8 +201,8 @@ returns c =
     let inv = c .before .before .before .before .before .before .before .before .before .before .before .loop .inv in
     let k = c .before .before .before .before .before .before .before .before .before .before .before .loop .k in
     let l = c .before .before .before .before .before .before .append-runs2 .last .1 .1 .1 .1 in
-    listed-all s (pre .0 .wellFormed) C (pre .1 .0) k (c .before .before .before .before .before .before .before .before .before .before .before .before .before .number-at .result + 1) (c .before .before .before .before .before .before .append-runs2 .result) (l .0) (l .1 .0) (l .1 .1 .0)
-    (omega (arith, inv .0, inv .2, regions-read s, c .before .before .before .before .before .before .before .before .before .before .loop-test .left)) (omega (arith, inv .1, peptides-read s)) (c .before .before .before .before .before .before .append-runs2 .ensures (ofFirst (familyOf s) C k) (inv .7))
+    listed-all s (pre .0 .wellFormed) C (pre .1 .0) k (c .before .before .before .before .before .before .before .before .before .before .before .before .before .peptide-count .result + 1) (c .before .before .before .before .before .before .append-runs2 .result) (l .0) (l .1 .0) (l .1 .1 .0)
+    (omega (arith, inv .0, inv .2, c .before .before .before .before .before .before .before .before .before .before .loop-test .left)) (omega (arith, inv .1)) (c .before .before .before .before .before .before .append-runs2 .ensures (ofFirst (familyOf s) C k) (inv .7))
 
 pub gather-spec : {M : Type 1} → statement M
 gather-spec =
@@ -223,14 +210,13 @@ gather-spec =
     (tie.spec
     Inv-loop
     μ-loop
-    number-at-requires
-    number-at-requires-2
+    peptide-count-requires
+    region-count-requires
     loop-holds
     add-k
     nth-requires
     nth-requires-2
     nth-requires-3
-    add-append-runs
     append-runs-requires
     cast-from
     mul-from
@@ -242,12 +228,10 @@ gather-spec =
     mul-bounds
     slice-write-bounds
     add-n
-    add-next
     loop-less
     loop-again
     loop-less-2
     loop-again-2
-    add-append-runs-2
     append-runs-requires-2
     same-length
     same-length-2

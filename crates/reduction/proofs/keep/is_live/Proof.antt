@@ -18,10 +18,10 @@ shared-slice-read-result : tie.Need-shared-slice-read-result
 shared-slice-read-result c = search needs
 
 returns-2 : tie.Need-returns-2
-returns-2 c = selected-at (now (c .before .before .before .args .live)) (c .before .before .before .args .p) (c .before .before .if1 .left)
+returns-2 c = selected-at (now (c .before .before .before .args .live)) (c .before .before .before .args .peptide .0) (c .before .before .if1 .left)
 
 returns-3 : tie.Need-returns-3
-returns-3 c = selected-past (now (c .before .before .args .live)) (c .before .before .args .p) (c .before .if1 .left) (c .if2 .left)
+returns-3 c = selected-past (now (c .before .before .args .live)) (c .before .before .args .peptide .0) (c .before .if1 .left) (c .if2 .left)
 
 pub is-live-spec : {M : Type 1} → statement M
 is-live-spec =

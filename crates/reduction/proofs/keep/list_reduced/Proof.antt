@@ -4,7 +4,7 @@ use Prim.Native.Nat.{_≤_}
 use native.Mathlib.Omega.{arith}
 use Rattle.reader.specs.Bytes.{IsBytes}
 use Rattle.reader.specs.Family.{familyOf, regionCount}
-use Rattle.reduction.specs.Keeping.{Known}
+use Rattle.reduction.specs.Keeping.{WithStretches}
 use Rattle.reduction.proofs.HandedOn.{known, totals-at, parents-at}
 use Rattle.reduction.proofs.Gathering.{few-regions}
 use borrow.Author.Needs.{needs}
@@ -14,7 +14,7 @@ use Rattle.reduction.proofs.keep.list_reduced.Tie as tie
 bytes : (c : tie.After-shared-slice-known) → IsBytes (now (c .before .args .file))
 bytes c i = omega (arith, c .shared-slice-known .given i)
 
-knows : (c : tie.After-shared-slice-known) → Known (familyOf (now (c .before .args .file))) (now (c .before .args .firsts)) (now (c .before .args .lasts))
+knows : (c : tie.After-shared-slice-known) → WithStretches (familyOf (now (c .before .args .file))) (now (c .before .args .firsts)) (now (c .before .args .lasts))
 knows c = known (now (c .before .args .file)) (bytes c) (c .before .pre .0 .accepted) (now (c .before .args .live)) (now (c .before .args .firsts)) (now (c .before .args .lasts)) (c .before .pre .1 .1 .0)
 
 few : (c : tie.After-shared-slice-known) → regionCount (familyOf (now (c .before .args .file))) ≤ 8191

@@ -5,8 +5,7 @@ use mathlib.Core.Path.{_≡_, refl, sym, _∙_, subst}
 use native.Mathlib.Omega.{arith}
 use lib.ListN.{length, set, length-set}
 use Rattle.reader.specs.Family.{familyOf, regionCount}
-use Rattle.reader.proofs.Parsed.{regions-read}
-use Rattle.reduction.specs.Keeping.{NextStretch, Marked}
+use Rattle.reduction.specs.Keeping.{NextStretch, KeptMarked}
 use Rattle.reduction.proofs.Bounding.{marks-start, next-start, next-stretch, next-same, marks-more}
 use borrow.Author.Needs.{needs}
 use Rattle.reduction.proofs.keep.mark_kept.Statement.{statement}
@@ -14,27 +13,27 @@ use Rattle.reduction.proofs.keep.mark_kept.Tie as tie
 
 abbrev Inv-loop : tie.InvT-loop
 Inv-loop file totals firsts lasts least around kept₀ next₀ k₀ kept next k =
-    (k ≤ regionCount (familyOf file)) × (length kept ≡ length kept₀) × NextStretch (familyOf file) k next × Marked (familyOf file) kept k
+    (k ≤ regionCount (familyOf file)) × (length kept ≡ length kept₀) × NextStretch (familyOf file) k next × KeptMarked (familyOf file) kept k
 
 abbrev μ-loop : tie.MeasureT-loop
 μ-loop file totals firsts lasts least around kept₀ next₀ k₀ kept next k = k
 
 -- one region more is marked
-marks : (c : tie.After-kept-bound Inv-loop μ-loop) → Marked (familyOf (now (c .before .before .before .before .before .before .before .before .before .before .before .args .file))) (set (c .before .before .loop .kept) (c .before .before .loop .k - 1) (c .kept-bound .result)) (c .before .before .loop .k - 1)
+marks : (c : tie.After-kept-bound Inv-loop μ-loop) → KeptMarked (familyOf (now (c .before .before .before .before .before .before .before .before .before .before .before .args .file))) (set (c .before .before .loop .kept) (c .before .before .loop .k - 1) (c .kept-bound .result)) (c .before .before .loop .k - 1)
 marks c =
     let pre = c .before .before .before .before .before .before .before .before .before .before .before .pre in
     let inv = c .before .before .loop .inv in
     marks-more (pre .0) (c .before .before .loop .next) (c .before .before .loop .k) (c .before .loop-test .taken) (inv .0) (inv .2) _ _ _ (c .before .before .loop .kept) _ (pre .1 .0) (pre .1 .1 .0)
     (omega (arith, c .before .before .before .before .before .before .before .before .before .shared-slice-known2 .given (c .before .before .loop .k - 1))) (omega (arith, inv .0, inv .1, pre .1 .1 .1)) (inv .3) (c .kept-bound .ensures)
 
-number-at-requires : tie.Need-number-at-requires Inv-loop μ-loop
-number-at-requires c κs = search needs
+region-count-requires : tie.Need-region-count-requires Inv-loop μ-loop
+region-count-requires c κs = search needs
 
 loop-holds : tie.Need-loop-holds Inv-loop μ-loop
 loop-holds c =
     let s = now (c .before .before .before .before .before .before .before .before .args .file) in
-    let k : regionCount (familyOf s) ≡ c .number-at .result = regions-read s ∙ sym (c .number-at .ensures) in
-    (omega arith, refl, next-start (familyOf s) (c .number-at .result) (omega arith), marks-start (familyOf s) _ (c .number-at .result) (omega arith))
+    let read = c .region-count .ensures in
+    (omega arith, refl, next-start (familyOf s) (c .region-count .result) (omega arith), marks-start (familyOf s) _ (c .region-count .result) (omega arith))
 
 sub-k : tie.Need-sub-k Inv-loop μ-loop
 sub-k c = search needs
@@ -89,7 +88,7 @@ same-length : tie.Need-same-length Inv-loop μ-loop
 same-length c = search needs
 
 returns : tie.Need-returns Inv-loop μ-loop
-returns c = subst (Marked _ _) (c .loop-test .left) (c .before .loop .inv .3)
+returns c = subst (KeptMarked _ _) (c .loop-test .left) (c .before .loop .inv .3)
 
 pub mark-kept-spec : {M : Type 1} → statement M
 mark-kept-spec =
@@ -97,7 +96,7 @@ mark-kept-spec =
     (tie.spec
     Inv-loop
     μ-loop
-    number-at-requires
+    region-count-requires
     loop-holds
     sub-k
     kept-bound-requires

@@ -1,4 +1,4 @@
--- The loop has found the peptides from p to the last one dead.
+-- The loop has found the peptides from the first one to the last one dead.
 use denote.Ref.{now}
 use Prim.Native.Nat.{ℕ, _-_, _≤_}
 use mathlib.Core.Bool.{false}
@@ -13,21 +13,21 @@ use Rattle.reduction.proofs.keep.run_end.Statement.{statement}
 use Rattle.reduction.proofs.keep.run_end.Tie as tie
 
 abbrev Inv-loop : tie.InvT-loop
-Inv-loop live p peptides last₀ last = (p ≤ last) × (last ≤ peptides) × ((q : ℕ) → p ≤ q → q ≤ last → selected live q ≡ false)
+Inv-loop live peptides last₀ last = (last₀ ≤ last) × (last ≤ peptides) × ((q : ℕ) → last₀ ≤ q → q ≤ last → selected live q ≡ false)
 
 abbrev μ-loop : tie.MeasureT-loop
-μ-loop live p peptides last₀ last = peptides - last
+μ-loop live peptides last₀ last = peptides - last
 
 loop-holds : tie.Need-loop-holds Inv-loop μ-loop
 loop-holds c =
     let a = c .before .args in (
       omega arith,
       c .before .pre .0,
-      λ q l u. subst (λ (i : ℕ). selected (now (a .live)) i ≡ false) (omega arith) (begins-dead (selected (now (a .live))) (a .p) (c .before .pre .1)),
+      λ q l u. subst (λ (i : ℕ). selected (now (a .live)) i ≡ false) (omega arith) (begins-dead (selected (now (a .live))) (a .first .0) (c .before .pre .1)),
     )
 
-add-is-live : tie.Need-add-is-live Inv-loop μ-loop
-add-is-live c = search needs
+add-next : tie.Need-add-next Inv-loop μ-loop
+add-next c = search needs
 
 is-live-requires : tie.Need-is-live-requires Inv-loop μ-loop
 is-live-requires c κs = search needs
@@ -36,9 +36,6 @@ returns : tie.Need-returns Inv-loop μ-loop
 returns c =
     let inv = c .before .before .before .loop .inv in
     record { order = inv .0; small = inv .1; dead = inv .2; right = inr (sym (c .before .is-live .ensures) ∙ c .if1 .taken) }
-
-add-last : tie.Need-add-last Inv-loop μ-loop
-add-last c = search needs
 
 loop-less : tie.Need-loop-less Inv-loop μ-loop
 loop-less c = search needs
@@ -67,10 +64,9 @@ run-end-spec =
     Inv-loop
     μ-loop
     loop-holds
-    add-is-live
+    add-next
     is-live-requires
     returns
-    add-last
     loop-less
     loop-again
     returns-2)

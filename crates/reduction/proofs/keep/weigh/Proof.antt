@@ -4,9 +4,7 @@ use Prim.Native.Nat.{_-_, _≤_, _<_}
 use mathlib.Core.Path.{_≡_, refl}
 use native.Mathlib.Omega.{arith}
 use lib.ListN.{length, length-set}
-use Rattle.reader.specs.Bytes.{numberAt}
 use Rattle.reader.specs.Family.{familyOf, regionCount}
-use Rattle.reader.proofs.Parsed.{regions-read}
 use Rattle.reduction.specs.Keeping.{WeighedBelow}
 use Rattle.reduction.proofs.Weighing.{weighed-more}
 use borrow.Author.Needs.{needs}
@@ -15,19 +13,19 @@ use Rattle.reduction.proofs.keep.weigh.Tie as tie
 
 abbrev Inv-loop : tie.InvT-loop
 Inv-loop file parents firsts lasts least₀ around₀ regions k₀ least around k =
-    (k ≤ regions) × (regions ≡ numberAt file 8) × (length least ≡ length least₀) × (length around ≡ length around₀) × WeighedBelow (familyOf file) least around k
+    (k ≤ regions) × (regions ≡ regionCount (familyOf file)) × (length least ≡ length least₀) × (length around ≡ length around₀) × WeighedBelow (familyOf file) least around k
 
 abbrev μ-loop : tie.MeasureT-loop
 μ-loop file parents firsts lasts least₀ around₀ regions k₀ least around k = regions - k
 
 here : (c : tie.In-loop Inv-loop μ-loop) → c .before .loop .k < regionCount (familyOf (now (c .before .before .before .before .before .before .before .before .before .args .file)))
-here c = omega (arith, regions-read (now (c .before .before .before .before .before .before .before .before .before .args .file)), c .loop-test .taken, c .before .loop .inv .1)
+here c = omega (arith, c .loop-test .taken, c .before .loop .inv .1)
 
-number-at-requires : tie.Need-number-at-requires Inv-loop μ-loop
-number-at-requires c κs = search needs
+region-count-requires : tie.Need-region-count-requires Inv-loop μ-loop
+region-count-requires c κs = search needs
 
 loop-holds : tie.Need-loop-holds Inv-loop μ-loop
-loop-holds c = (omega arith, c .number-at .ensures, refl, refl, λ i l. absurd (omega arith))
+loop-holds c = (omega arith, c .region-count .ensures, refl, refl, λ i l. absurd (omega arith))
 
 weigh-region-requires : tie.Need-weigh-region-requires Inv-loop μ-loop
 weigh-region-requires c κs =
@@ -53,7 +51,7 @@ slice-write-around : tie.Need-slice-write-around Inv-loop μ-loop
 slice-write-around c = let pre = c .before .before .before .before .before .before .before .before .before .before .before .before .pre in omega (arith, here (c .before .before .before), pre .1 .1 .1, c .before .before .before .before .loop .inv .3)
 
 add-k : tie.Need-add-k Inv-loop μ-loop
-add-k c = omega (arith, c .before .before .before .before .before .number-at .ok, c .before .before .before .loop-test .taken)
+add-k c = omega (arith, c .before .before .before .before .before .region-count .ok, c .before .before .before .loop-test .taken)
 
 loop-less : tie.Need-loop-less Inv-loop μ-loop
 loop-less c = search needs
@@ -77,9 +75,8 @@ same-length-2 c = search needs
 
 returns : tie.Need-returns Inv-loop μ-loop
 returns c =
-    let s = now (c .before .before .before .before .before .before .before .before .before .args .file) in
     let inv = c .before .loop .inv in
-    λ i l. inv .4 i (omega (arith, regions-read s, inv .0, inv .1, c .loop-test .left))
+    λ i l. inv .4 i (omega (arith, inv .0, inv .1, c .loop-test .left))
 
 pub weigh-spec : {M : Type 1} → statement M
 weigh-spec =
@@ -87,7 +84,7 @@ weigh-spec =
     (tie.spec
     Inv-loop
     μ-loop
-    number-at-requires
+    region-count-requires
     loop-holds
     weigh-region-requires
     cast-least

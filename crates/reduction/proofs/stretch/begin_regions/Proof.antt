@@ -3,10 +3,8 @@ use Prim.Native.Nat.{_≤_, _-_, _+_}
 use native.Mathlib.Omega.{arith}
 use mathlib.Core.Path.{_≡_, refl, sym, _∙_}
 use lib.ListN.{length, length-set}
-use denote.Ref.{now}
-use Rattle.reader.specs.Bytes.{numberAt}
-use Rattle.reader.specs.Family.{familyOf}
-use Rattle.reader.proofs.Parsed.{regions-read, held-first}
+use Rattle.reader.specs.Family.{familyOf, regionCount}
+use Rattle.reader.proofs.Parsed.{held-first}
 use Rattle.reduction.specs.Passes.{Lowered}
 use Rattle.reduction.proofs.OpenRegions.{still-begun, one-begins, all-begun}
 use borrow.Author.Needs.{needs}
@@ -14,19 +12,19 @@ use Rattle.reduction.proofs.stretch.begin_regions.Statement.{statement}
 use Rattle.reduction.proofs.stretch.begin_regions.Tie as tie
 
 abbrev Inv-loop : tie.InvT-loop
-Inv-loop file passed sum begun lows₀ regions k₀ lows k =
-    (k ≤ regions) × (regions ≡ numberAt file 8) × (length lows ≡ length lows₀) × (begun ≤ k) × Lowered (familyOf file) (passed + 1) k lows
+Inv-loop file begun lows₀ passed low regions k₀ lows k =
+    (k ≤ regions) × (regions ≡ regionCount (familyOf file)) × (length lows ≡ length lows₀) × (begun ≤ k) × Lowered (familyOf file) (passed + 1) k lows
 
 abbrev μ-loop : tie.MeasureT-loop
-μ-loop file passed sum begun lows₀ regions k₀ lows k = regions - k
+μ-loop file begun lows₀ passed low regions k₀ lows k = regions - k
 
-number-at-requires : tie.Need-number-at-requires Inv-loop μ-loop
-number-at-requires c κs = search needs
+region-count-requires : tie.Need-region-count-requires Inv-loop μ-loop
+region-count-requires c κs = search needs
 
 loop-holds : tie.Need-loop-holds Inv-loop μ-loop
 loop-holds c =
     let pre = c .before .before .before .pre in
-    (omega (arith, regions-read (now (c .before .before .before .args .file)), pre .begun .lows .few, c .number-at .ensures), c .number-at .ensures, refl, omega arith, still-begun _ (pre .formed) (pre .begun))
+    (omega (arith, pre .begun .lows .few, c .region-count .ensures), c .region-count .ensures, refl, omega arith, still-begun _ (pre .formed) (pre .begun))
 
 region-of-requires : tie.Need-region-of-requires Inv-loop μ-loop
 region-of-requires c κs = search needs
@@ -42,7 +40,7 @@ returns c =
     let pre = c .before .before .before .before .before .before .before .pre in
     let inv = c .before .before .before .loop .inv in
     record {
-      begun = all-begun _ (pre .formed) (c .before .before .before .before .before .before .before .args .passed) (c .before .before .before .before .before .before .before .args .begun) (c .before .before .before .loop .k) _ _ (pre .begun) (inv .3) (inv .4) (λ l e. c .if1 .taken (held-first _ _ (c .before .region-of .ensures) ∙ e));
+      begun = all-begun _ (pre .formed) (c .before .before .before .before .before .before .before .args .leaf .0) (c .before .before .before .before .before .before .before .args .begun) (c .before .before .before .loop .k) _ _ (pre .begun) (inv .3) (inv .4) (λ l e. c .if1 .taken (held-first _ _ (c .before .region-of .ensures) ∙ e));
       more = inv .3;
     }
 
@@ -53,10 +51,10 @@ mul-lows : tie.Need-mul-lows Inv-loop μ-loop
 mul-lows c = search needs
 
 slice-write-lows : tie.Need-slice-write-lows Inv-loop μ-loop
-slice-write-lows c = omega (arith, c .before .before .before .loop .inv, c .before .before .loop-test .taken, c .before .before .before .before .before .before .before .pre .room, regions-read (now (c .before .before .before .before .before .before .before .args .file)))
+slice-write-lows c = omega (arith, c .before .before .before .loop .inv, c .before .before .loop-test .taken, c .before .before .before .before .before .before .before .pre .room)
 
 add-k : tie.Need-add-k Inv-loop μ-loop
-add-k c = omega (arith, c .before .before .before .before .number-at .ok, c .before .before .loop-test .taken)
+add-k c = omega (arith, c .before .before .before .before .region-count .ok, c .before .before .loop-test .taken)
 
 loop-less : tie.Need-loop-less Inv-loop μ-loop
 loop-less c = search needs
@@ -65,13 +63,12 @@ loop-again : tie.Need-loop-again Inv-loop μ-loop
 loop-again c =
     let pre = c .before .before .before .before .before .before .before .pre in
     let inv = c .before .before .before .loop .inv in
-    let read = regions-read (now (c .before .before .before .before .before .before .before .args .file)) in
     let test = c .before .before .loop-test .taken in (
       omega arith,
       inv .1,
       simp length-set (inv .2),
       omega arith,
-      one-begins _ (pre .formed) (c .before .before .before .before .before .before .before .args .passed) (c .before .before .before .loop .k) (c .before .before .before .before .before .before .before .args .sum) (c .before .before .before .loop .lows) (omega arith) (omega (arith, pre .room)) (sym (held-first _ _ (c .before .region-of .ensures)) ∙ c .if1 .left) (pre .sums) (inv .4),
+      one-begins _ (pre .formed) (c .before .before .before .before .before .before .before .args .leaf .0) (c .before .before .before .loop .k) (c .before .before .before .before .before .before .before .args .peptide .0) (c .before .before .before .loop .lows) (omega arith) (omega (arith, pre .room)) (sym (held-first _ _ (c .before .region-of .ensures)) ∙ c .if1 .left) (pre .sums) (inv .4),
     )
 
 same-length-2 : tie.Need-same-length-2 Inv-loop μ-loop
@@ -81,9 +78,8 @@ returns-2 : tie.Need-returns-2 Inv-loop μ-loop
 returns-2 c =
     let pre = c .before .before .before .before .before .pre in
     let inv = c .before .loop .inv in
-    let read = regions-read (now (c .before .before .before .before .before .args .file)) in
     record {
-      begun = all-begun _ (pre .formed) (c .before .before .before .before .before .args .passed) (c .before .before .before .before .before .args .begun) (c .before .loop .k) _ _ (pre .begun) (inv .3) (inv .4) (λ l e. omega (arith, c .loop-test .left));
+      begun = all-begun _ (pre .formed) (c .before .before .before .before .before .args .leaf .0) (c .before .before .before .before .before .args .begun) (c .before .loop .k) _ _ (pre .begun) (inv .3) (inv .4) (λ l e. omega (arith, c .loop-test .left));
       more = inv .3;
     }
 
@@ -93,7 +89,7 @@ begin-regions-spec =
     (tie.spec
     Inv-loop
     μ-loop
-    number-at-requires
+    region-count-requires
     loop-holds
     region-of-requires
     add-if1

@@ -12,11 +12,11 @@ use Rattle.reduction.proofs.stretch.end_regions.Statement.{statement}
 use Rattle.reduction.proofs.stretch.end_regions.Tie as tie
 
 abbrev Inv-loop : tie.InvT-loop
-Inv-loop file parents leaf sum inner highs₀ number₀ highs number =
-    (length highs ≡ length highs₀) × Open (familyOf file) leaf leaf highs number
+Inv-loop file parents inner highs₀ end high number₀ highs number =
+    (length highs ≡ length highs₀) × Open (familyOf file) end end highs number
 
 abbrev μ-loop : tie.MeasureT-loop
-μ-loop file parents leaf sum inner highs₀ number₀ highs number = number
+μ-loop file parents inner highs₀ end high number₀ highs number = number
 
 loop-holds : tie.Need-loop-holds Inv-loop μ-loop
 loop-holds c = (refl, c .before .before .before .pre .opened)
@@ -32,7 +32,7 @@ same-length c = search needs
 
 returns : tie.Need-returns Inv-loop μ-loop
 returns c =
-    none-ends _ (c .before .before .before .before .before .before .before .pre .family .formed) (c .before .before .before .before .before .before .before .args .leaf) (c .before .before .before .loop .number) _ (c .before .before .before .loop .inv .1) (λ h e. c .if1 .taken (held-last _ _ (c .before .region-of .ensures) ∙ e))
+    none-ends _ (c .before .before .before .before .before .before .before .pre .family .formed) (c .before .before .before .before .before .before .before .args .leaf .0) (c .before .before .before .loop .number) _ (c .before .before .before .loop .inv .1) (λ h e. c .if1 .taken (held-last _ _ (c .before .region-of .ensures) ∙ e))
 
 sub-highs : tie.Need-sub-highs Inv-loop μ-loop
 sub-highs c = search needs
@@ -68,7 +68,7 @@ loop-again c =
     let some : 1 ≤ c .before .before .before .before .loop .number = omega (arith, c .before .before .before .loop-test) in
     let few = inv .1 .few in (
       simp length-set (inv .0),
-      one-ends _ (pre .family .formed) (c .before .before .before .before .before .before .before .before .args .leaf) (c .before .before .before .before .loop .number) _ (c .before .before .before .before .before .before .before .before .args .sum) (c .before .before .before .before .loop .highs) some (omega (arith, pre .room)) (inv .1) (sym (held-last _ _ (c .before .before .region-of .ensures)) ∙ c .before .if1 .left) (pre .sums)
+      one-ends _ (pre .family .formed) (c .before .before .before .before .before .before .before .before .args .leaf .0) (c .before .before .before .before .loop .number) _ (c .before .before .before .before .before .before .before .before .args .peptide .0) (c .before .before .before .before .loop .highs) some (omega (arith, pre .room)) (inv .1) (sym (held-last _ _ (c .before .before .region-of .ensures)) ∙ c .before .if1 .left) (pre .sums)
           (pre .family .known (c .before .before .before .before .loop .number - 1) (omega arith)),
     )
 
@@ -78,7 +78,7 @@ same-length-2 c = search needs
 returns-2 : tie.Need-returns-2 Inv-loop μ-loop
 returns-2 c =
     let none = c .loop-test .left in
-    subst (Open _ _ _ _) none (none-ends _ (c .before .before .before .before .before .pre .family .formed) (c .before .before .before .before .before .args .leaf) (c .before .loop .number) _ (c .before .loop .inv .1) (λ h e. omega arith))
+    subst (Open _ _ _ _) none (none-ends _ (c .before .before .before .before .before .pre .family .formed) (c .before .before .before .before .before .args .leaf .0) (c .before .loop .number) _ (c .before .loop .inv .1) (λ h e. omega arith))
 
 pub end-regions-spec : {M : Type 1} → statement M
 end-regions-spec =

@@ -11,7 +11,7 @@ use Rattle.reduction.proofs.stretch.fill_after.Statement.{statement}
 use Rattle.reduction.proofs.stretch.fill_after.Tie as tie
 
 abbrev Inv-loop : tie.InvT-loop
-Inv-loop live m after₀ next₀ p₀ after next p = (length after ≡ length after₀) × Nearing m (selected live) p next after
+Inv-loop live m after₀ next₀ p₀ after next p = (length after ≡ length after₀) × Nearing m (selected live) p (next .0) after
 
 abbrev μ-loop : tie.MeasureT-loop
 μ-loop live m after₀ next₀ p₀ after next p = p

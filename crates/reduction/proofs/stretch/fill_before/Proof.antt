@@ -11,7 +11,7 @@ use Rattle.reduction.proofs.stretch.fill_before.Statement.{statement}
 use Rattle.reduction.proofs.stretch.fill_before.Tie as tie
 
 abbrev Inv-loop : tie.InvT-loop
-Inv-loop live m before₀ last₀ p₀ before last p = (p ≤ m) × (length before ≡ length before₀) × Passing (selected live) p last before
+Inv-loop live m before₀ last₀ p₀ before last p = (p ≤ m) × (length before ≡ length before₀) × Passing (selected live) p (last .0) before
 
 abbrev μ-loop : tie.MeasureT-loop
 μ-loop live m before₀ last₀ p₀ before last p = m - p

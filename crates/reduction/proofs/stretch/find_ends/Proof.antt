@@ -4,9 +4,7 @@ use native.Mathlib.Omega.{arith}
 use mathlib.Core.Path.{_≡_, refl, sym, subst, _∙_}
 use lib.ListN.{length}
 use denote.Ref.{now}
-use Rattle.reader.specs.Bytes.{numberAt}
-use Rattle.reader.specs.Family.{familyOf, peptidesUpTo}
-use Rattle.reader.proofs.Parsed.{leaves-read}
+use Rattle.reader.specs.Family.{familyOf, leaves, peptidesUpTo}
 use Rattle.reader.proofs.Walk.{nothing-before}
 use Rattle.reduction.specs.Passes.{Begun, Open}
 use Rattle.reduction.proofs.OpenRegions.{next-leaf, upTo-small, none-begun, none-open, regions-begin, ends-found}
@@ -15,27 +13,27 @@ use Rattle.reduction.proofs.stretch.find_ends.Statement.{statement}
 use Rattle.reduction.proofs.stretch.find_ends.Tie as tie
 
 abbrev Inv-loop : tie.InvT-loop
-Inv-loop file parents lows₀ highs₀ leaves sum₀ begun₀ inner₀ leaf₀ lows highs sum begun inner leaf =
-    (leaf ≤ leaves)
-    × (leaves ≡ numberAt file 6)
+Inv-loop file parents lows₀ highs₀ n peptide₀ begun₀ inner₀ leaf₀ lows highs peptide begun inner leaf =
+    (leaf ≤ n)
+    × (n ≡ leaves (familyOf file))
     × (length lows ≡ length lows₀)
     × (length highs ≡ length highs₀)
-    × (sum ≡ peptidesUpTo (familyOf file) leaf)
+    × (peptide ≡ peptidesUpTo (familyOf file) leaf)
     × Begun (familyOf file) leaf begun lows
     × Open (familyOf file) leaf (leaf + 1) highs inner
 
 abbrev μ-loop : tie.MeasureT-loop
-μ-loop file parents lows₀ highs₀ leaves sum₀ begun₀ inner₀ leaf₀ lows highs sum begun inner leaf = leaves - leaf
+μ-loop file parents lows₀ highs₀ n peptide₀ begun₀ inner₀ leaf₀ lows highs peptide begun inner leaf = n - leaf
 
--- the sum with the length of the leaf
-sums : (c : tie.After-leaf-length Inv-loop μ-loop) → c .before .before .before .before .before .before .before .loop .sum + c .leaf-length .result ≡ peptidesUpTo (familyOf (now (c .before .before .before .before .before .before .before .before .before .before .before .before .before .args .file))) (c .before .before .before .before .before .before .before .loop .leaf + 1)
+-- the last peptide of the next leaf
+sums : (c : tie.After-leaf-length Inv-loop μ-loop) → c .before .before .before .before .before .before .before .loop .peptide + c .leaf-length .result ≡ peptidesUpTo (familyOf (now (c .before .before .before .before .before .before .before .before .before .before .before .before .before .args .file))) (c .before .before .before .before .before .before .before .loop .leaf + 1)
 sums c = omega (arith, c .before .before .before .before .before .before .before .loop .inv .4, c .leaf-length .ensures, next-leaf (familyOf (now (c .before .before .before .before .before .before .before .before .before .before .before .before .before .args .file))) (c .before .before .before .before .before .before .before .loop .leaf))
 
-number-at-requires : tie.Need-number-at-requires Inv-loop μ-loop
-number-at-requires c κs = search needs
+leaf-count-requires : tie.Need-leaf-count-requires Inv-loop μ-loop
+leaf-count-requires c κs = search needs
 
 loop-holds : tie.Need-loop-holds Inv-loop μ-loop
-loop-holds c = let w = c .before .before .before .before .before .pre .0 .formed in (omega arith, c .number-at .ensures, refl, refl, sym (nothing-before _), none-begun _ w _, none-open _ w _)
+loop-holds c = let w = c .before .before .before .before .before .pre .0 .formed in (omega arith, c .leaf-count .ensures, refl, refl, sym (nothing-before _), none-begun _ w _, none-open _ w _)
 
 begin-regions-requires : tie.Need-begin-regions-requires Inv-loop μ-loop
 begin-regions-requires c κs =
@@ -43,7 +41,7 @@ begin-regions-requires c κs =
     let inv = c .before .before .loop .inv in
     record {
       formed = pre .0 .formed;
-      leaf = omega (arith, leaves-read (now (c .before .before .before .before .before .before .before .before .args .file)), inv .1, c .before .loop-test .taken);
+      leaf = omega (arith, inv .1, c .before .loop-test .taken);
       sums = inv .4;
       begun = inv .5;
       room = omega (arith, pre .1 .first, inv .2);
@@ -53,15 +51,15 @@ innermost-requires : tie.Need-innermost-requires Inv-loop μ-loop
 innermost-requires c κs = search needs
 
 add-leaf : tie.Need-add-leaf Inv-loop μ-loop
-add-leaf c = omega (arith, c .before .before .before .before .before .before .before .number-at .ok, c .before .before .before .before .before .loop-test .taken)
+add-leaf c = omega (arith, c .before .before .before .before .before .before .before .leaf-count .ok, c .before .before .before .before .before .loop-test .taken)
 
 leaf-length-requires : tie.Need-leaf-length-requires Inv-loop μ-loop
 leaf-length-requires c κs = search needs
 
-add-sum : tie.Need-add-sum Inv-loop μ-loop
-add-sum c =
+add-peptide : tie.Need-add-peptide Inv-loop μ-loop
+add-peptide c =
     let w = c .before .before .before .before .before .before .before .before .before .before .before .before .before .pre .0 .formed in
-    omega (arith, sums c, upTo-small _ w (c .before .before .before .before .before .before .before .loop .leaf + 1) (omega (arith, leaves-read (now (c .before .before .before .before .before .before .before .before .before .before .before .before .before .args .file)), c .before .before .before .before .before .before .before .loop .inv .1, c .before .before .before .before .before .before .loop-test .taken)), w .peptides-most)
+    omega (arith, sums c, upTo-small _ w (c .before .before .before .before .before .before .before .loop .leaf + 1) (omega (arith, c .before .before .before .before .before .before .before .loop .inv .1, c .before .before .before .before .before .before .loop-test .taken)), w .peptides-most)
 
 end-regions-requires : tie.Need-end-regions-requires Inv-loop μ-loop
 end-regions-requires c κs =
@@ -91,7 +89,7 @@ same-length-2 c = c .before .loop .inv .3
 returns : tie.Need-returns Inv-loop μ-loop
 returns c =
     let inv = c .before .loop .inv in
-    ends-found _ (c .before .before .before .before .before .before .before .pre .0 .formed) (c .before .loop .leaf) _ _ _ _ (omega (arith, leaves-read (now (c .before .before .before .before .before .before .before .args .file)), inv .0, inv .1, c .loop-test .left)) (inv .5) (inv .6)
+    ends-found _ (c .before .before .before .before .before .before .before .pre .0 .formed) (c .before .loop .leaf) _ _ _ _ (omega (arith, inv .0, inv .1, c .loop-test .left)) (inv .5) (inv .6)
 
 pub find-ends-spec : {M : Type 1} → statement M
 find-ends-spec =
@@ -99,13 +97,13 @@ find-ends-spec =
     (tie.spec
     Inv-loop
     μ-loop
-    number-at-requires
+    leaf-count-requires
     loop-holds
     begin-regions-requires
     innermost-requires
     add-leaf
     leaf-length-requires
-    add-sum
+    add-peptide
     end-regions-requires
     loop-less
     loop-again

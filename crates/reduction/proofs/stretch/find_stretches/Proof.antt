@@ -5,13 +5,13 @@ use denote.Ref.{now}
 use Rattle.reader.specs.Family.{Family, familyOf, regionCount}
 use Rattle.reader.specs.WellFormed.{WellFormed}
 use Rattle.reader.proofs.Accepting.{well-formed}
-use Rattle.reduction.specs.Passes.{Known, Ended}
+use Rattle.reduction.specs.Passes.{WithParents, Ended}
 use Rattle.reduction.proofs.ListFronts.{known-parents, lives-begin, firsts-begin, lasts-begin}
 use borrow.Author.Needs.{needs}
 use Rattle.reduction.proofs.stretch.find_stretches.Statement.{statement}
 use Rattle.reduction.proofs.stretch.find_stretches.Tie as tie
 
-known : (c : tie.After-shared-slice-known) → Known (familyOf (now (c .before .args .file))) (now (c .before .args .parents))
+known : (c : tie.After-shared-slice-known) → WithParents (familyOf (now (c .before .args .file))) (now (c .before .args .parents))
 known c =
     let pre = c .before .pre .0 in
     let s = now (c .before .args .file) in

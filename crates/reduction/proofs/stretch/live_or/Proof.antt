@@ -19,10 +19,10 @@ shared-slice-read-if1 : tie.Need-shared-slice-read-if1
 shared-slice-read-if1 c = search needs
 
 returns : tie.Need-returns
-returns c = let a = c .before .before .args in rw (selected-at (now (a .live)) (a .p) (c .before .before .pre .0) ∙ eq-eqb (getD (now (a .live)) (a .p - 1) 0) 1 (c .if1 .taken))
+returns c = let a = c .before .before .args in rw (selected-at (now (a .live)) (a .peptide .0) (c .before .before .pre .0) ∙ eq-eqb (getD (now (a .live)) (a .peptide .0 - 1) 0) 1 (c .if1 .taken))
 
 returns-2 : tie.Need-returns-2
-returns-2 c = let a = c .before .before .args in rw (selected-at (now (a .live)) (a .p) (c .before .before .pre .0) ∙ ne-eqb (getD (now (a .live)) (a .p - 1) 0) 1 (c .if1 .left))
+returns-2 c = let a = c .before .before .args in rw (selected-at (now (a .live)) (a .peptide .0) (c .before .before .pre .0) ∙ ne-eqb (getD (now (a .live)) (a .peptide .0 - 1) 0) 1 (c .if1 .left))
 
 pub live-or-spec : {M : Type 1} → statement M
 live-or-spec = tie.close (tie.spec sub-if1 cast-if1 shared-slice-read-if1 returns returns-2)

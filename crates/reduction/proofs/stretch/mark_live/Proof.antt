@@ -3,17 +3,17 @@ use Prim.Native.Nat.{_≤_, _-_}
 use native.Mathlib.Omega.{arith}
 use mathlib.Core.Path.{_≡_, refl}
 use lib.ListN.{length, length-set}
-use Rattle.reduction.specs.Passes.{Marked}
+use Rattle.reduction.specs.Passes.{LiveMarked}
 use Rattle.reduction.proofs.DeadPeptides.{none-marked, marked-more, marked-less}
 use borrow.Author.Needs.{needs}
 use Rattle.reduction.proofs.stretch.mark_live.Statement.{statement}
 use Rattle.reduction.proofs.stretch.mark_live.Tie as tie
 
 abbrev Inv-loop : tie.InvT-loop
-Inv-loop live₀ from to until p₀ live p = (from ≤ p) × (length live ≡ length live₀) × Marked live₀ live from p until
+Inv-loop live₀ until end p₀ live p = (p₀ ≤ p) × (length live ≡ length live₀) × LiveMarked live₀ live p₀ p (until .0)
 
 abbrev μ-loop : tie.MeasureT-loop
-μ-loop live₀ from to until p₀ live p = to - p
+μ-loop live₀ until end p₀ live p = end - p
 
 loop-holds : tie.Need-loop-holds Inv-loop μ-loop
 loop-holds c = (omega arith, refl, none-marked _ _ _)

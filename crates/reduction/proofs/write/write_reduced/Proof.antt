@@ -2,12 +2,11 @@
 use Prim.Native.Nat.{ℕ, _+_, _*_}
 use native.Mathlib.Omega.{arith}
 use mathlib.Core.List.{List}
-use mathlib.Core.Path.{_≡_, refl, sym, ap, _∙_}
+use mathlib.Core.Path.{_≡_, refl, ap, _∙_}
 use lib.ListN.{length, getD}
 use denote.Ref.{now}
 use Rattle.reader.specs.Bytes.{IsBytes}
 use Rattle.reader.specs.Family.{familyOf}
-use Rattle.reader.proofs.Parsed.{peptides-read}
 use Rattle.reduction.specs.Reduction.{leafLengths}
 use Rattle.reduction.specs.Writing.{withNumbers, OnLine, endsAt, markedIn, regionNumbers}
 use Rattle.reduction.proofs.LeafEnds.{zeros, marks-itself, counts-small}
@@ -19,24 +18,24 @@ use Rattle.reduction.proofs.write.write_reduced.Tie as tie
 bytes : (c : tie.After-ends) → IsBytes (now (c .before .before .before .before .before .before .before .args .file))
 bytes c i = omega (arith, c .before .before .before .before .before .before .shared-slice-known .given i)
 
-line : (c : tie.After-ends) → c .before .number-at .result ≡ familyOf (now (c .before .before .before .before .before .before .before .args .file)) .peptides
-line c = c .before .number-at .ensures ∙ sym (peptides-read (now (c .before .before .before .before .before .before .before .args .file)))
+line : (c : tie.After-ends) → c .before .peptide-count .result ≡ familyOf (now (c .before .before .before .before .before .before .before .args .file)) .peptides
+line c = c .before .peptide-count .ensures
 
-on-line : (c : tie.After-ends) → OnLine (c .before .number-at .result) (c .before .before .before .before .before .before .before .args .n) (now (c .before .before .before .before .before .before .before .args .from)) (now (c .before .before .before .before .before .before .before .args .to))
+on-line : (c : tie.After-ends) → OnLine (c .before .peptide-count .result) (c .before .before .before .before .before .before .before .args .n) (now (c .before .before .before .before .before .before .before .args .from)) (now (c .before .before .before .before .before .before .before .args .to))
 on-line c =
     let a = c .before .before .before .before .before .before .before .args in
-    ranges-listed (now (a .file)) (bytes c) (c .before .before .before .before .before .before .before .pre .0) (a .n) (now (a .from)) (now (a .to)) (now (a .bounds)) (c .before .before .before .before .before .before .before .pre .1 .0) (c .before .number-at .result) (line c)
+    ranges-listed (now (a .file)) (bytes c) (c .before .before .before .before .before .before .before .pre .0) (a .n) (now (a .from)) (now (a .to)) (now (a .bounds)) (c .before .before .before .before .before .before .before .pre .1 .0) (c .before .peptide-count .result) (line c)
 
 -- what is known once the leaf ends are counted
 room : (c : tie.After-counts2)
-    → Room (c .before .before .before .before .before .before .before .number-at .result) (c .before .before .before .before .before .before .before .before .before .before .before .before .before .args .n) (c .before .before .before .before .before .mark-ends .last .1 .1 .1 .1 .0) (c .before .count-ends .last .1 .1 .0) (length (now (c .before .before .before .before .before .before .before .before .before .before .before .before .before .args .out)))
+    → Room (c .before .before .before .before .before .before .before .peptide-count .result) (c .before .before .before .before .before .before .before .before .before .before .before .before .before .args .n) (c .before .before .before .before .before .mark-ends .last .1 .1 .1 .1 .0) (c .before .count-ends .last .1 .1 .0) (length (now (c .before .before .before .before .before .before .before .before .before .before .before .before .before .args .out)))
 room c =
     let a = c .before .before .before .before .before .before .before .before .before .before .before .before .before .args in
-    has-room (now (a .file)) (bytes (c .before .before .before .before .before .before)) (c .before .before .before .before .before .before .before .before .before .before .before .before .before .pre .0) (a .n) (now (a .from)) (now (a .to)) (now (a .bounds)) (c .before .before .before .before .before .before .before .before .before .before .before .before .before .pre .1 .0) (c .before .before .before .before .before .before .before .number-at .result) (line (c .before .before .before .before .before .before))
+    has-room (now (a .file)) (bytes (c .before .before .before .before .before .before)) (c .before .before .before .before .before .before .before .before .before .before .before .before .before .pre .0) (a .n) (now (a .from)) (now (a .to)) (now (a .bounds)) (c .before .before .before .before .before .before .before .before .before .before .before .before .before .pre .1 .0) (c .before .before .before .before .before .before .before .peptide-count .result) (line (c .before .before .before .before .before .before))
     (c .before .before .before .before .before .mark-ends .last .1 .1 .1 .1 .0) (c .before .count-ends .last .1 .1 .0) (c .before .before .before .before .before .mark-ends .ensures) (c .before .count-ends .ensures) (length (now (a .out))) (c .before .before .before .before .before .before .before .before .before .before .before .before .before .pre .1 .1)
 
-number-at-requires : tie.Need-number-at-requires
-number-at-requires c κs = search needs
+peptide-count-requires : tie.Need-peptide-count-requires
+peptide-count-requires c κs = search needs
 
 slice-aggregate-mark-ends : tie.Need-slice-aggregate-mark-ends
 slice-aggregate-mark-ends c = search needs
@@ -55,7 +54,7 @@ count-ends-requires c κs =
     let a = c .before .before .before .before .before .before .before .before .before .before .before .args in
     let few = on-line (c .before .before .before .before) .line in (
       omega (arith, c .before .before .before .mark-ends .kept .1 .1 .1 .1 .0),
-      (omega arith, (refl, marks-itself (c .before .before .before .mark-ends .last .1 .1 .1 .1 .0) (endsAt (c .before .before .before .before .before .number-at .result) (a .n) (now (a .from)) (now (a .to))) (c .before .before .before .mark-ends .ensures))),
+      (omega arith, (refl, marks-itself (c .before .before .before .mark-ends .last .1 .1 .1 .1 .0) (endsAt (c .before .before .before .before .before .peptide-count .result) (a .n) (now (a .from)) (now (a .to))) (c .before .before .before .mark-ends .ensures))),
     )
 
 cast-leaves : tie.Need-cast-leaves
@@ -105,7 +104,7 @@ write-regions-requires c κs =
         (
           omega (arith, c .before .before .before .before .before .before .before .before .before .before .before .before .count-ends .kept .1 .1 .0),
           (
-            counts-small (c .before .before .before .before .before .before .before .before .before .before .before .before .before .before .before .before .mark-ends .last .1 .1 .1 .1 .0) (c .before .before .before .before .before .before .before .before .before .before .before .before .count-ends .last .1 .1 .0) (c .before .before .before .before .before .before .before .before .before .before .before .before .before .before .before .before .before .before .number-at .result) (c .before .before .before .before .before .before .before .before .before .before .before .before .count-ends .ensures),
+            counts-small (c .before .before .before .before .before .before .before .before .before .before .before .before .before .before .before .before .mark-ends .last .1 .1 .1 .1 .0) (c .before .before .before .before .before .before .before .before .before .before .before .before .count-ends .last .1 .1 .0) (c .before .before .before .before .before .before .before .before .before .before .before .before .before .before .before .before .before .before .peptide-count .result) (c .before .before .before .before .before .before .before .before .before .before .before .before .count-ends .ensures),
             omega (arith, r .enough, c .before .before .before .before .before .before .before .before .before .write-header .kept .1 .1 .1 .0, c .before .before .before .before .write-lengths .kept .1 .1 .0),
           ),
         ),
@@ -118,7 +117,7 @@ same-length c = search needs
 returns : tie.Need-returns
 returns c =
     let a = c .before .before .before .before .before .before .before .before .before .before .before .before .before .before .before .before .before .before .before .before .before .before .before .before .before .before .before .args in
-    let m = c .before .before .before .before .before .before .before .before .before .before .before .before .before .before .before .before .before .before .before .before .before .number-at .result in
+    let m = c .before .before .before .before .before .before .before .before .before .before .before .before .before .before .before .before .before .before .before .before .before .peptide-count .result in
     let E = c .before .before .before .before .before .before .before .before .before .before .before .before .before .before .before .before .before .before .before .mark-ends .last .1 .1 .1 .1 .0 in
     let C = c .before .before .before .before .before .before .before .before .before .before .before .before .before .before .before .count-ends .last .1 .1 .0 in
     let lengths = leafLengths m (markedIn E) in
@@ -135,7 +134,7 @@ pub write-reduced-spec : {M : Type 1} → statement M
 write-reduced-spec =
     tie.close
     (tie.spec
-    number-at-requires
+    peptide-count-requires
     slice-aggregate-mark-ends
     mark-ends-requires
     slice-aggregate-count-ends
