@@ -20,6 +20,10 @@ module _ (p : ℕ → Bool) where
   none-below-zero = refl
 
   -- a loop that has found none so far, and none here
+  pub some-more : (n : ℕ) → someBelow (n + 1) p ≡ someBelow n p || p n
+  unfolding someBelow
+  some-more n = rw add-one refl
+
   pub none-more : (n : ℕ) → someBelow n p ≡ false → p n ≡ false → someBelow (n + 1) p ≡ false
   unfolding someBelow
   none-more n h k = rw add-one (or-neither (someBelow n p) (p n) h k)

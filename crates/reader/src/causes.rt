@@ -6,8 +6,9 @@ use crate::family::Region;
 use crate::family::region_at;
 use crate::family::region_within;
 ghost use mathlib.Core.Path.{_≡_};
-ghost use mathlib.Core.Bool.{not};
+ghost use mathlib.Core.Bool.{not, _||_};
 ghost use Prim.Native.Nat.{_<_};
+ghost use lib.Dec.{eqb};
 ghost use Rattle.reader.specs.Bytes.{numberAt};
 ghost use Rattle.reader.specs.Family.{familyOf, regionAt};
 ghost use Rattle.reader.specs.Nesting.{before};
@@ -74,21 +75,30 @@ fn bad_layout(file: &[u8]) -> bool
     file.len() != total
 }
 
-// A leaf length 0, or their sum not m.
+// Whether one of the leaves so far is empty: one before, or the one of that length.
+fn empty_so_far(before: bool, length: u16) -> bool
+    ensures { λ r. ⌜ r ≡ (before || eqb length 0) ⌝ }
+{
+    if before { true } else { length == 0 }
+}
+
+// A leaf length 0, or their sum not m. The loop goes to the end in any case: several lengths are then added at once.
 pub(crate) fn bad_lengths(file: &[u8]) -> bool
     requires { ⌜ Whole (now file) ⌝ }
     ensures { λ r. ⌜ r ≡ cause6 (familyOf (now (file .entry))) ⌝ }
 {
     let leaves = number_at(file, 6) as usize;
     let mut sum: usize = 0;
+    let mut empty = false;
     let mut j = 0;
     while j < leaves {
         let length = number_within(file, 16 + 2 * j);
-        if length == 0 {
-            return true;
-        }
+        empty = empty_so_far(empty, length);
         sum += length as usize;
         j += 1;
+    }
+    if empty {
+        return true;
     }
     sum != number_at(file, 4) as usize
 }
