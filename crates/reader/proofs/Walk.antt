@@ -118,7 +118,7 @@ module _ (s : List ℕ) where
       ap (peptidesUpTo (familyOf s)) e ∙ up-to-next (familyOf s) j
       ∙ ap (λ (n : ℕ). peptidesUpTo (familyOf s) j + n) (length-number s j l ∙ ap (numberAt s) (sym a))
 
-  pub eight-more : (j : ℕ) → j + 8 ≤ numberAt s 6 → peptidesUpTo (familyOf s) (j + 8) ≡ peptidesUpTo (familyOf s) j + eightLengths s (16 + 2 * j)
+  eight-more : (j : ℕ) → j + 8 ≤ numberAt s 6 → peptidesUpTo (familyOf s) (j + 8) ≡ peptidesUpTo (familyOf s) j + eightLengths s (16 + 2 * j)
   unfolding eightLengths
   eight-more j l =
       let at = 16 + 2 * j in
@@ -133,3 +133,11 @@ module _ (s : List ℕ) where
         one-more (j + 6) (j + 7) (at + 12) (omega arith) (omega arith) (omega arith),
         one-more (j + 7) (j + 8) (at + 14) (omega arith) (omega arith) (omega arith),
       )
+
+  pub sixteen-more :
+      (j : ℕ) → j + 16 ≤ numberAt s 6
+      → peptidesUpTo (familyOf s) (j + 16) ≡ peptidesUpTo (familyOf s) j + eightLengths s (16 + 2 * j) + eightLengths s (16 + 2 * j + 16)
+  sixteen-more j l =
+      let there : j + 8 + 8 ≡ j + 16 = omega arith in
+      let at : 16 + 2 * (j + 8) ≡ 16 + 2 * j + 16 = omega arith in
+      omega (arith, eight-more j (omega arith), eight-more (j + 8) (omega arith), ap (peptidesUpTo (familyOf s)) there, ap (eightLengths s) at)

@@ -68,6 +68,7 @@ struct Passed {
 fn eight_lengths(file: &[u8], at: usize) -> u32
     requires { ⌜ at + 16 ≤ length (now file) ⌝ }
     ensures { λ r. ⌜ r ≡ eightLengths (now (file .entry)) at ⌝ }
+    ensures { λ r. ⌜ r ≤ 524280 ⌝ }
 {
     let a = (number_within(file, at) as u32) + (number_within(file, at + 2) as u32);
     let b = (number_within(file, at + 4) as u32) + (number_within(file, at + 6) as u32);
@@ -76,8 +77,8 @@ fn eight_lengths(file: &[u8], at: usize) -> u32
     a + b + c + d
 }
 
-// Passes eight leaves at a time, while these end before the peptide: a walk spends most of its time here.
-fn pass_eights(file: &[u8], peptide: Peptide) -> Passed
+// Passes sixteen leaves at a time, while these end before the peptide: a walk spends most of its time here.
+fn pass_sixteens(file: &[u8], peptide: Peptide) -> Passed
     ensures { λ r. ⌜ PassedTo (familyOf (now (file .entry))) (peptide .0) (r .leaf .0) (r .left) ⌝ }
 {
     let leaves = leaf_count(file);
@@ -89,8 +90,9 @@ fn pass_eights(file: &[u8], peptide: Peptide) -> Passed
             left,
         };
     }
-    while 8 <= leaves - j {
-        let sum = eight_lengths(file, 16 + 2 * (j as usize));
+    while 16 <= leaves - j {
+        let at = 16 + 2 * (j as usize);
+        let sum = eight_lengths(file, at) + eight_lengths(file, at + 16);
         if (left as u32) <= sum {
             return Passed {
                 leaf: Leaf(j),
@@ -98,7 +100,7 @@ fn pass_eights(file: &[u8], peptide: Peptide) -> Passed
             };
         }
         left = left - (sum as u16);
-        j += 8;
+        j += 16;
     }
     Passed {
         leaf: Leaf(j),
@@ -111,7 +113,7 @@ pub fn leaf_of(file: &[u8], peptide: Peptide) -> Leaf
     ensures { λ r. ⌜ r .0 ≡ leafOf (familyOf (now (file .entry))) (peptide .0) ⌝ }
 {
     let leaves = leaf_count(file);
-    let passed = pass_eights(file, peptide);
+    let passed = pass_sixteens(file, peptide);
     let mut left = passed.left;
     let mut j = passed.leaf.0;
     while j < leaves {

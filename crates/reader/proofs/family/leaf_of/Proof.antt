@@ -1,4 +1,4 @@
--- The loop walks the leaves on from where the eights end: what is left of the peptide's number is to be found from leaf j on.
+-- The loop walks the leaves on from where the sixteens end: what is left of the peptide's number is to be found from leaf j on.
 use Prim.Native.Nat.{ℕ, _≤_, _-_, _+_}
 use native.Mathlib.Omega.{arith}
 use mathlib.Core.Path.{_≡_, refl, sym, ap, _∙_}
@@ -23,11 +23,11 @@ abbrev μ-loop : tie.MeasureT-loop
 leaf-count-requires : tie.Need-leaf-count-requires Inv-loop μ-loop
 leaf-count-requires c κs = search needs
 
-pass-eights-requires : tie.Need-pass-eights-requires Inv-loop μ-loop
-pass-eights-requires c κs = search needs
+pass-sixteens-requires : tie.Need-pass-sixteens-requires Inv-loop μ-loop
+pass-sixteens-requires c κs = search needs
 
 loop-holds : tie.Need-loop-holds Inv-loop μ-loop
-loop-holds c = (c .before .leaf-count .ensures, omega (arith, c .pass-eights .ensures .leaf, c .before .leaf-count .ensures), refl)
+loop-holds c = (c .before .leaf-count .ensures, omega (arith, c .pass-sixteens .ensures .leaf, c .before .leaf-count .ensures), refl)
 
 cast-number-at : tie.Need-cast-number-at Inv-loop μ-loop
 cast-number-at c = search needs
@@ -50,7 +50,7 @@ returns c =
     let j = c .before .before .before .loop .j in
     let inv = c .before .before .before .loop .inv in
     let l = length-number s j (omega (arith, leaves-read s, inv .0)) in
-    sym (c .before .before .before .before .pass-eights .ensures .found ∙ inv .2 ∙ walk-stops (familyOf s) j (c .before .before .before .loop .left) (omega (arith, inv .0)) (omega arith))
+    sym (c .before .before .before .before .pass-sixteens .ensures .found ∙ inv .2 ∙ walk-stops (familyOf s) j (c .before .before .before .loop .left) (omega (arith, inv .0)) (omega arith))
 
 sub-left : tie.Need-sub-left Inv-loop μ-loop
 sub-left c = search needs
@@ -78,7 +78,7 @@ returns-2 : tie.Need-returns-2 Inv-loop μ-loop
 returns-2 c =
     let s = now (c .before .before .before .before .before .args .file) in
     let inv = c .before .loop .inv in
-    sym (c .before .before .pass-eights .ensures .found ∙ inv .2 ∙ walk-ends (familyOf s) (c .before .loop .j) (c .before .loop .left) (omega (arith, inv .0)))
+    sym (c .before .before .pass-sixteens .ensures .found ∙ inv .2 ∙ walk-ends (familyOf s) (c .before .loop .j) (c .before .loop .left) (omega (arith, inv .0)))
 
 pub leaf-of-spec : {M : Type 1} → statement M
 leaf-of-spec =
@@ -87,7 +87,7 @@ leaf-of-spec =
     Inv-loop
     μ-loop
     leaf-count-requires
-    pass-eights-requires
+    pass-sixteens-requires
     loop-holds
     cast-number-at
     mul-number-at

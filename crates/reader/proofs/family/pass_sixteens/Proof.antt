@@ -1,4 +1,4 @@
--- The loop walks eight leaves at a time: what is left of the peptide's number is to be found from leaf j on.
+-- The loop walks sixteen leaves at a time: what is left of the peptide's number is to be found from leaf j on.
 use Prim.Native.Nat.{ℕ, _≤_, _<_, _-_, _+_, _*_}
 use native.Mathlib.Omega.{arith}
 use mathlib.Core.Path.{_≡_, _∙_}
@@ -6,10 +6,10 @@ use lib.ListN.{length, drop}
 use denote.Ref.{now}
 use Rattle.reader.specs.Family.{familyOf, leaves, leafOf, leafAfter}
 use Rattle.reader.proofs.Parsed.{leaves-read}
-use Rattle.reader.proofs.Walk.{walk-starts, walk-passes, eight-more}
+use Rattle.reader.proofs.Walk.{walk-starts, walk-passes, sixteen-more}
 use borrow.Author.Needs.{needs}
-use Rattle.reader.proofs.family.pass_eights.Statement.{statement}
-use Rattle.reader.proofs.family.pass_eights.Tie as tie
+use Rattle.reader.proofs.family.pass_sixteens.Statement.{statement}
+use Rattle.reader.proofs.family.pass_sixteens.Tie as tie
 
 abbrev Inv-loop : tie.InvT-loop
 Inv-loop file n left₀ j₀ left j =
@@ -43,26 +43,35 @@ loop-holds c = (c .before .leaf-count .ensures, omega arith, omega (arith, c .if
 sub-loop : tie.Need-sub-loop Inv-loop μ-loop
 sub-loop c = search needs
 
-cast-eight-lengths : tie.Need-cast-eight-lengths Inv-loop μ-loop
-cast-eight-lengths c = search needs
+cast-at : tie.Need-cast-at Inv-loop μ-loop
+cast-at c = search needs
 
-mul-eight-lengths : tie.Need-mul-eight-lengths Inv-loop μ-loop
-mul-eight-lengths c = search needs
+mul-at : tie.Need-mul-at Inv-loop μ-loop
+mul-at c = search needs
+
+add-at : tie.Need-add-at Inv-loop μ-loop
+add-at c = search needs
+
+eight-lengths-requires : tie.Need-eight-lengths-requires Inv-loop μ-loop
+eight-lengths-requires c κs = search needs
 
 add-eight-lengths : tie.Need-add-eight-lengths Inv-loop μ-loop
 add-eight-lengths c = search needs
 
-eight-lengths-requires : tie.Need-eight-lengths-requires Inv-loop μ-loop
-eight-lengths-requires c κs = search needs
+eight-lengths-requires-2 : tie.Need-eight-lengths-requires-2 Inv-loop μ-loop
+eight-lengths-requires-2 c κs = search needs
+
+add-sum : tie.Need-add-sum Inv-loop μ-loop
+add-sum c = omega (arith, c .eight-lengths2 .ensures .1, c .before .eight-lengths .ensures .1)
 
 cast-if2 : tie.Need-cast-if2 Inv-loop μ-loop
 cast-if2 c = search needs
 
 returns-2 : tie.Need-returns-2 Inv-loop μ-loop
-returns-2 c = let inv = c .before .before .before .loop .inv in record { leaf = omega (arith, inv .0, inv .1); found = inv .4 }
+returns-2 c = let inv = c .before .before .before .before .loop .inv in record { leaf = omega (arith, inv .0, inv .1); found = inv .4 }
 
 cast-left : tie.Need-cast-left Inv-loop μ-loop
-cast-left c = omega (arith, c .if2 .left, c .before .before .before .loop .inv .3)
+cast-left c = omega (arith, c .if2 .left, c .before .before .before .before .loop .inv .3)
 
 sub-left : tie.Need-sub-left Inv-loop μ-loop
 sub-left c = search needs
@@ -75,23 +84,25 @@ loop-less c = search needs
 
 loop-again : tie.Need-loop-again Inv-loop μ-loop
 loop-again c =
-    let s = now (c .before .before .before .before .before .before .before .args .file) in
-    let j = c .before .before .before .loop .j in
-    let left = c .before .before .before .loop .left in
-    let inv = c .before .before .before .loop .inv in
-    let sums = eight-more s j (omega (arith, leaves-read s, inv .0, c .before .before .loop-test)) in (
+    let s = now (c .before .before .before .before .before .before .before .before .args .file) in
+    let j = c .before .before .before .before .loop .j in
+    let left = c .before .before .before .before .loop .left in
+    let inv = c .before .before .before .before .loop .inv in
+    let test = c .before .before .before .loop-test in
+    let sums = sixteen-more s j (omega (arith, leaves-read s, inv .0, test)) in (
       inv .0,
-      omega (arith, c .before .before .loop-test),
+      omega (arith, test),
       inv .2,
       omega (arith, inv .3),
-      inv .4 ∙ walk-passes (familyOf s) 8 j left _ (omega (arith, inv .0, c .before .before .loop-test)) (omega (arith, sums, c .before .eight-lengths .ensures, c .if2 .left)) (omega (arith, c .if2 .left)),
+      inv .4
+          ∙ walk-passes (familyOf s) 16 j left _ (omega (arith, inv .0, test)) (omega (arith, sums, c .before .before .eight-lengths .ensures .0, c .before .eight-lengths2 .ensures .0, c .if2 .left)) (omega (arith, c .if2 .left)),
     )
 
 returns-3 : tie.Need-returns-3 Inv-loop μ-loop
 returns-3 c = let inv = c .before .loop .inv in record { leaf = omega (arith, inv .0, inv .1); found = inv .4 }
 
-pub pass-eights-spec : {M : Type 1} → statement M
-pass-eights-spec =
+pub pass-sixteens-spec : {M : Type 1} → statement M
+pass-sixteens-spec =
     tie.close
     (tie.spec
     Inv-loop
@@ -103,10 +114,13 @@ pass-eights-spec =
     returns
     loop-holds
     sub-loop
-    cast-eight-lengths
-    mul-eight-lengths
-    add-eight-lengths
+    cast-at
+    mul-at
+    add-at
     eight-lengths-requires
+    add-eight-lengths
+    eight-lengths-requires-2
+    add-sum
     cast-if2
     returns-2
     cast-left
