@@ -17,6 +17,6 @@ eightLengths s at =
     + numberAt s (at + 8) + numberAt s (at + 10) + numberAt s (at + 12) + numberAt s (at + 14)
 
 -- the leaf of peptide p is to be found after leaf j, with `left` of the peptide's number
-pub record PassedTo (F : Family) (p j left : ℕ) : Type 0 where
+pub record FoundAfter (F : Family) (p j left : ℕ) : Type 0 where
   pub leaf : j ≤ leaves F
   pub found : leafOf F p ≡ leafAfter j (drop j (F .lengths)) left

@@ -6,7 +6,7 @@ ghost use Prim.Native.Nat.{_+_, _*_, _<_, _≤_};
 ghost use lib.ListN.{length};
 ghost use Rattle.reader.specs.Bytes.{numberAt};
 ghost use Rattle.reader.specs.Family.{familyOf, leaves, regionCount, leafLength, leafOf, regionAt, region};
-ghost use Rattle.reader.specs.InPlace.{eightLengths, PassedTo};
+ghost use Rattle.reader.specs.InPlace.{eightLengths, FoundAfter};
 ghost use Rattle.reader.specs.Calls.{held};
 
 // The number of a leaf, 1 to N.
@@ -79,7 +79,7 @@ fn eight_lengths(file: &[u8], at: usize) -> u32
 
 // Passes sixteen leaves at a time, while these end before the peptide: a walk spends most of its time here.
 fn pass_sixteens(file: &[u8], peptide: Peptide) -> Passed
-    ensures { λ r. ⌜ PassedTo (familyOf (now (file .entry))) (peptide .0) (r .leaf .0) (r .left) ⌝ }
+    ensures { λ r. ⌜ FoundAfter (familyOf (now (file .entry))) (peptide .0) (r .leaf .0) (r .left) ⌝ }
 {
     let leaves = leaf_count(file);
     let mut left = peptide.0;
