@@ -2,28 +2,26 @@
 use Prim.Native.Nat.{ℕ, zero, suc, _+_, _*_, _-_, _<_, _≤_}
 use native.Mathlib.Omega.{arith}
 use native.Mathlib.Numerals.{add-one}
-use mathlib.Core.Bool.{Bool, true, false, cond}
-use mathlib.Core.List.{List, [], _∷_, _++_, nil≢cons}
-use mathlib.Core.Path.{_≡_, refl, sym, ap, subst, _∙_}
+use mathlib.Core.Bool.{false, cond}
+use mathlib.Core.List.{List, [], _∷_, _++_}
+use mathlib.Core.Path.{_≡_, sym, _∙_}
 use mathlib.Core.Logic.{inl, inr, ⊎-elim}
-use lib.ListN.{length, getD, take, drop}
-use lib.Dec.{leb, eqb}
-use borrow.Author.Tests.{eq-eqb, ne-eqb, eqb-true, eqb-false}
-use Rattle.reader.specs.Bytes.{IsBytes, numberAt}
+use lib.ListN.{length, take, drop}
+use lib.Dec.{leb}
+use borrow.Author.Tests.{ne-eqb}
+use Rattle.reader.specs.Bytes.{IsBytes}
 use Rattle.reader.specs.Family as family
-use Rattle.reader.specs.Family.{Family, leaves, regionCount, region, regionAt, familyOf, mark}
-use Rattle.reader.specs.Causes.{Cause, cause1, cause2, cause3, cause4, cause5, cause6, cause7, cause8, cause9, cause10, firstCause, headerCauses, familyCauses, fileCauses, Accepted}
+use Rattle.reader.specs.Family.{Family, leaves, regionCount, region, regionAt, familyOf}
+use Rattle.reader.specs.Causes.{cause1, cause2, cause3, cause4, cause5, cause6, cause7, cause8, cause9, cause10, firstCause, headerCauses, familyCauses, fileCauses, Accepted}
 use Rattle.reader.specs.WellFormed.{Ordered, WellFormed, ParentsBelow}
 use Rattle.reader.specs.InPlace.{Whole}
-use Rattle.reader.specs.declared.Checked.{Checked}
 use Rattle.reader.specs.declared.Checked.the-variants.{Family as Accepts, Refused}
-use Rattle.reader.specs.Calls.{Report, report, checked, regionPart, withParents}
-use Rattle.reader.proofs.Bools.{test}
+use Rattle.reader.specs.Calls.{report, checked, regionPart, withParents}
 use Rattle.reader.proofs.Below.{below-suc}
 use Rattle.reader.proofs.Parsed.{leaves-read, regions-read, region-read, number-fits}
 use Rattle.reader.proofs.First.{Numbered, head-clear, join-clear, join-holds, clear-left, clear-right, answers, declines, learns-number, learns-values}
-use Rattle.reader.proofs.Judged.{OnLeaves, Before, LaidDown, marked, from-marked, peptides-counted, from-peptides-counted, leaves-counted, from-leaves-counted, regions-counted, from-regions-counted, laid-down, from-laid-down, lengths-clear, from-lengths-clear, regions-placed, from-regions-placed, regions-rise, from-regions-rise}
-use Rattle.reader.proofs.Climbing.{parents-written, nested-if-clear, clear-if-nested, shallow-if-clear, not-too-deep}
+use Rattle.reader.proofs.Judged.{Before, peptides-counted, leaves-counted, regions-counted, laid-down, lengths-clear, regions-placed, regions-rise}
+use Rattle.reader.proofs.Climbing.{parents-written, nested-if-clear, shallow-if-clear}
 
 -- The order of neighbours carries over to all.
 

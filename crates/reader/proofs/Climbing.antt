@@ -1,25 +1,24 @@
 -- The parents: the climb that finds them, and what they say about nesting and depth.
 use Prim.Native.Nat.{ℕ, zero, suc, _+_, _-_, _<_, _≤_}
-use native.Mathlib.Nat.{eq-or-lt-of-le, le-of-suc-le-suc}
-use native.Mathlib.Numerals.{add-one}
+use native.Mathlib.Nat.{eq-or-lt-of-le}
 use native.Mathlib.Omega.{arith}
-use mathlib.Core.Bool.{Bool, true, false, not, cond, _&&_}
+use mathlib.Core.Bool.{true, false, not, _&&_}
 use mathlib.Core.List.{List}
 use mathlib.Core.Path.{_≡_, refl, sym, ap, subst, _∙_}
 use mathlib.Core.Logic.{_⊎_, inl, inr, ⊎-elim}
 use lib.ListN.{length, getD, set, take}
 use lib.Seq.{getD-set-same, getD-set-other, getD-take, ext-getD, length-take-le}
 use lib.Dec.{leb, ltb, eqb}
-use borrow.Author.Tests.{ltb-true, ltb-false, leb-true, leb-false, eqb-true, eqb-false, lt-ltb, le-ltb, le-leb, lt-leb, eq-eqb, ne-eqb, not-true, not-false}
-use Rattle.reader.specs.Lists.{tabulate, someBelow, countBelow, firstBelow}
-use Rattle.reader.specs.Family.{Region, Family, leaves, regionCount, region}
+use borrow.Author.Tests.{ltb-true, ltb-false, leb-true, leb-false, eqb-true, lt-ltb, le-ltb, le-leb, ne-eqb, not-true, not-false}
+use Rattle.reader.specs.Lists.{tabulate, someBelow}
+use Rattle.reader.specs.Family.{Region, Family, regionCount, region}
 use Rattle.reader.specs.Nesting.{shareLeaf, within, crossing, inside, regionsAround, justInside, parent, parents}
 use Rattle.reader.specs.Causes.{cause9, cause10}
 use Rattle.reader.specs.WellFormed.{Ordered, NestedBelow, IsParent, ParentsBelow}
 use Rattle.reader.specs.Climb.{Climbed, endsBefore, oneDeeper}
-use Rattle.reader.proofs.Bools.{test, clash, passes, refuted, and-l, and-r, and-both, and-fails, not-fails, not-passes}
+use Rattle.reader.proofs.Bools.{test, clash, refuted, and-l, and-r, and-both, and-fails, not-passes}
 use Rattle.reader.proofs.Lists.{length-tabulate, getD-tabulate}
-use Rattle.reader.proofs.Below.{none-at, none-below, some-at, first-at, first-none, count-same, count-none, count-one-more}
+use Rattle.reader.proofs.Below.{none-at, none-below, some-at, first-at, first-none, count-none, count-one-more}
 
 -- Leaf ranges that lie within each other, as inequalities.
 

@@ -1,15 +1,14 @@
 -- Worked examples of the check: the eight-peptide family, and the edges of causes 2, 4 and 10.
-use Prim.Native.Nat.{ℕ, _+_, _*_, _-_}
-use mathlib.Core.Bool.{Bool, true, false, not, cond, _&&_, _||_}
-use mathlib.Core.List.{List, [], _∷_, _++_}
+use Prim.Native.Nat.{ℕ, _-_}
+use mathlib.Core.List.{List, [], _∷_}
 use mathlib.Core.Path.{_≡_, refl}
 use lib.ListN.{replicate, drop}
 use Rattle.reader.specs.Lists.{tabulate, sum, sameList, someBelow, countBelow, firstBelow}
 use Rattle.reader.specs.Bytes.{numberAt, bytesOf}
 use Rattle.reader.specs.Family.{Region, Family, region, mark, lengthAt, regionAt, familyOf, regionFields, fields, fileOf}
 use Rattle.reader.specs.Nesting.{before, shareLeaf, within, crossing, inside, justInside, parent, parents}
-use Rattle.reader.specs.Causes.{cause1, cause2, cause3, cause4, cause5, cause6, cause7, cause8, cause9, cause10, misplaced, firstCause, headerCauses, familyCauses, fileCauses, Accepted}
-use Rattle.reader.specs.Calls.{Report, answer, checked, regionPart}
+use Rattle.reader.specs.Causes.{cause1, cause2, cause3, cause4, cause5, cause6, cause7, cause8, cause9, cause10, misplaced, firstCause, headerCauses, familyCauses, fileCauses}
+use Rattle.reader.specs.Calls.{answer, checked, regionPart}
 
 abbrev range : ℕ → ℕ → ℕ → Region
 range a b z = record { first = a; last = b; z = z }

@@ -2,20 +2,16 @@
 use Prim.Native.Nat.{ℕ, zero, suc, _+_, _*_, _-_, _/_, _%_, _<_, _≤_}
 use native.Mathlib.Nat.{not-suc-le-zero, le-of-suc-le-suc, eq-or-lt-of-le, zero-add, suc-add}
 use native.Mathlib.Omega.{arith}
-use mathlib.Core.Bool.{false}
 use mathlib.Core.List.{List, [], _∷_, _++_}
 use mathlib.Core.Path.{_≡_, refl, sym, ap, ap₂, subst, _∙_}
 use mathlib.Core.Logic.{⊎-elim, inl, inr}
 use lib.ListN.{length, getD, take, drop, length-append, length-drop, take-append-drop, List·getD-append}
 use lib.Seq.{ext-getD, getD-append-add, getD-drop, take-append-seam}
-use lib.Dec.{ltb}
-use borrow.Author.Tests.{ltb-true, ltb-false}
 use Rattle.reader.specs.Lists.{tabulate, sum}
 use Rattle.reader.specs.Bytes.{IsBytes, numberAt, bytesOf}
 use Rattle.reader.specs.Family.{Region, Family, leaves, regionCount, region, mark, lengthAt, regionAt, familyOf, regionFields, fields, fileOf}
-use Rattle.reader.specs.Causes.{cause1, cause5, Accepted}
-use Rattle.reader.specs.WellFormed.{Ordered, WellFormed}
-use Rattle.reader.proofs.Bools.{test}
+use Rattle.reader.specs.Causes.{Accepted}
+use Rattle.reader.specs.WellFormed.{WellFormed}
 use Rattle.reader.proofs.Lists.{length-tabulate, getD-tabulate}
 use Rattle.reader.proofs.Parsed.{peptides-read, leaves-read, regions-read}
 use Rattle.reader.proofs.Judged.{Before, LaidDown, marked, from-marked, from-peptides-counted, from-leaves-counted, from-regions-counted, laid-down, from-laid-down, from-lengths-clear, from-regions-placed, from-regions-rise}

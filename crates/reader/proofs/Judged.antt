@@ -2,20 +2,19 @@
 -- well-formed family use these and open no cause again.
 use Prim.Native.Nat.{ℕ, zero, suc, _+_, _*_, _-_, _<_, _≤_}
 use native.Mathlib.Omega.{arith}
-use native.Mathlib.Numerals.{add-one}
 use mathlib.Core.Bool.{Bool, true, false, not, cond, _&&_, _||_}
-use mathlib.Core.List.{List, [], _∷_, _++_}
-use mathlib.Core.Path.{_≡_, refl, sym, ap, subst, _∙_}
+use mathlib.Core.List.{List}
+use mathlib.Core.Path.{_≡_, refl, ap, _∙_}
 use mathlib.Core.Logic.{_⊎_, inl, inr, ⊎-elim}
 use lib.ListN.{length, getD, take}
 use lib.Dec.{leb, ltb, eqb}
-use borrow.Author.Tests.{ltb-true, ltb-false, leb-true, leb-false, eqb-true, eqb-false, lt-ltb, le-ltb, le-leb, lt-leb, eq-eqb, ne-eqb, not-true, not-false}
-use Rattle.reader.specs.Lists.{sum, sameList, someBelow, countBelow}
+use borrow.Author.Tests.{ltb-true, ltb-false, leb-true, leb-false, eqb-true, eqb-false, lt-ltb, le-ltb, eq-eqb, ne-eqb, not-false}
+use Rattle.reader.specs.Lists.{sum, sameList, someBelow}
 use Rattle.reader.specs.Bytes.{numberAt}
-use Rattle.reader.specs.Family.{Region, Family, leaves, regionCount, region, regionAt, lengthAt, familyOf, mark, regionsOffset, totalLength}
-use Rattle.reader.specs.Nesting.{before, shareLeaf, within, crossing, inside}
-use Rattle.reader.specs.Causes.{cause1, cause2, cause3, cause4, cause5, cause6, cause7, cause8, cause9, cause10, misplaced, firstCause, headerCauses, familyCauses, fileCauses}
-use Rattle.reader.proofs.Bools.{test, clash, passes, refuted, and-l, and-r, and-both, and-fails, or-l, or-r, or-either, or-neither, or-fails-l, or-fails-r, not-fails, not-passes}
+use Rattle.reader.specs.Family.{Region, Family, leaves, regionCount, region, regionAt, lengthAt, familyOf, mark}
+use Rattle.reader.specs.Nesting.{before}
+use Rattle.reader.specs.Causes.{cause1, cause2, cause3, cause4, cause5, cause6, cause7, cause8, misplaced, firstCause, headerCauses}
+use Rattle.reader.proofs.Bools.{test, refuted, and-l, and-r, and-both, or-l, or-r, or-either, or-neither, or-fails-l, or-fails-r, not-fails, not-passes}
 use Rattle.reader.proofs.Below.{none-at, none-below, some-same}
 use Rattle.reader.proofs.Lists.{same-equal, same-refl}
 use Rattle.reader.proofs.Parsed.{peptides-read, leaves-read, regions-read, length-read, region-read}

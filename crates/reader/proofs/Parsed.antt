@@ -1,10 +1,9 @@
 -- The layout of a file: what `familyOf` reads as counts, lengths and regions.
 use Prim.Native.Nat.{ℕ, zero, suc, _+_, _*_, _<_, _≤_}
 use native.Mathlib.Omega.{arith}
-use mathlib.Core.Path.{_≡_, refl, sym, _∙_, ap}
-use mathlib.Core.List.{List, [], _∷_}
-use lib.ListN.{length, getD, List·getD-eq-default}
-use Rattle.reader.specs.Lists.{tabulate}
+use mathlib.Core.Path.{_≡_, refl, _∙_, ap}
+use mathlib.Core.List.{List, _∷_}
+use lib.ListN.{getD, List·getD-eq-default}
 use Rattle.reader.specs.Bytes.{IsBytes, numberAt}
 use Rattle.reader.specs.Family.{Region, Family, leaves, regionCount, region, leafLength, lengthAt, regionAt, familyOf}
 use Rattle.reader.specs.declared.family.Region as struct

@@ -1,15 +1,13 @@
 -- What the calls of `reader` answer, defined from the bytes of the file.
-use Prim.Native.Nat.{ℕ, _<_, _≤_}
+use Prim.Native.Nat.{ℕ}
 use mathlib.Core.Bool.{cond, _&&_}
 use mathlib.Core.List.{List, [], _∷_, _++_}
-use mathlib.Core.Path.{_≡_}
 use lib.ListN.{length, drop}
 use lib.Dec.{leb, eqb}
 use Rattle.reader.specs.Family as family
 use Rattle.reader.specs.Family.{familyOf, leaves, regionCount, regionsOffset}
 use Rattle.reader.specs.Nesting.{parents}
-use Rattle.reader.specs.Causes.{Cause, firstCause, fileCauses, Accepted}
-use Rattle.reader.specs.WellFormed.{ParentsBelow}
+use Rattle.reader.specs.Causes.{Cause, firstCause, fileCauses}
 use Rattle.reader.specs.declared.Checked.{Checked}
 use Rattle.reader.specs.declared.Checked.the-variants.{Family, Refused}
 use Rattle.reader.specs.declared.family.Region.{Region}
@@ -50,8 +48,3 @@ withParents s out =
 -- the region that a struct holds
 unfoldable pub held : Region → family.Region
 held r = record { first = r .first .0; last = r .last .0; z = r .z }
-
--- what the check finds, with the parents of an accepted family in the list
-pub record Judged (s P : List ℕ) (r : Checked) : Type 0 where
-  pub reported : report r ≡ checked s
-  pub parents : Accepted s → ParentsBelow (familyOf s) P (regionCount (familyOf s))

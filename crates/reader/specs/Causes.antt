@@ -1,10 +1,10 @@
 -- Why a family file is refused: causes 1 to 10, each over its whole input, in the order in which they are tried.
 use Prim.Native.Nat.{ℕ, _+_, _*_, _-_}
-use mathlib.Core.Bool.{Bool, not, cond, _&&_, _||_}
+use mathlib.Core.Bool.{Bool, not, cond, _||_}
 use mathlib.Core.List.{List, [], _∷_, _++_}
 use mathlib.Core.Path.{_≡_}
-use lib.ListN.{length, getD, take, drop}
-use lib.Dec.{leb, ltb, eqb}
+use lib.ListN.{length, getD, take}
+use lib.Dec.{ltb, eqb}
 use Rattle.reader.specs.Lists.{sum, sameList, someBelow}
 use Rattle.reader.specs.Bytes.{numberAt}
 use Rattle.reader.specs.Family.{Region, Family, leaves, regionCount, region, familyOf, mark, lengthsOffset, regionsOffset, totalLength}

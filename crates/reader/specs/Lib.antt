@@ -6,5 +6,5 @@ pub mod Nesting
 pub mod Causes
 pub mod WellFormed
 pub mod InPlace
-pub mod Climb
 pub mod Calls
+pub mod Climb

@@ -22,8 +22,7 @@ pub(crate) fn number_within(s: &[u8], at: usize) -> u16
     (low as u16) + 256 * (high as u16)
 }
 
-// The number at an offset; what lies past the end counts as 0. One comparison settles both bytes: the walks spend their
-// time here.
+// The number at an offset; what lies past the end counts as 0. One comparison settles both bytes of any but the last.
 pub fn number_at(s: &[u8], at: usize) -> u16
     ensures { λ r. ⌜ r ≡ numberAt (now (s .entry)) at ⌝ }
 {

@@ -22,11 +22,7 @@ fn lacks_mark(file: &[u8]) -> bool
     if file.len() < 16 {
         return true;
     }
-    if same_bytes(&file[0..4], b"PHFB") {
-        false
-    } else {
-        true
-    }
+    !same_bytes(&file[0..4], b"PHFB")
 }
 
 // The first of the causes 1 to 5 that holds, or 0.

@@ -20,8 +20,8 @@ ghost use lib.ListN.{length, take, drop};
 ghost use lib.Dec.{leb};
 ghost use Rattle.reader.specs.Family.{familyOf};
 ghost use Rattle.reader.specs.Causes.{firstCause, headerCauses};
-ghost use Rattle.reader.specs.Climb.{FamilyJudged};
-ghost use Rattle.reader.specs.Calls.{Judged, report, checked, regionPart, withParents};
+ghost use Rattle.reader.specs.Climb.{FamilyJudged, Judged};
+ghost use Rattle.reader.specs.Calls.{report, checked, regionPart, withParents};
 
 // An accepted family with m, N and K, or the number of the first cause that holds.
 pub enum Checked {

@@ -4,7 +4,7 @@ use mathlib.Core.Bool.{false}
 use mathlib.Core.Path.{_≡_, sym, _∙_}
 use denote.Ref.{now}
 use Rattle.reader.specs.Family.{familyOf}
-use Rattle.reader.specs.Causes.{cause6, cause7, cause8, cause9, cause10, firstCause, familyCauses}
+use Rattle.reader.specs.Causes.{cause6, cause7, cause8, cause9, firstCause, familyCauses}
 use Rattle.reader.specs.WellFormed.{Ordered}
 use Rattle.reader.proofs.Climbing.{nested-if-clear}
 use Rattle.reader.proofs.Accepting.{ordered-if-clear, header-clear, header-whole, few-regions}

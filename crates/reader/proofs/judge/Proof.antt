@@ -1,8 +1,6 @@
 -- The first cause of the header, else that of the family; with neither the file is accepted.
-use native.Mathlib.Omega.{arith}
-use mathlib.Core.Path.{_≡_, sym, _∙_}
+use mathlib.Core.Path.{sym, _∙_}
 use denote.Ref.{now}
-use Rattle.reader.specs.Family.{familyOf}
 use Rattle.reader.proofs.Parsed.{peptides-read, leaves-read, regions-read}
 use Rattle.reader.proofs.Accepting.{file-header, file-family, reports-refused, reports-accepted}
 use borrow.Author.Needs.{needs}

@@ -1,11 +1,11 @@
 -- The regions begin after the leaf lengths, and an accepted file ends with them.
 use Prim.Native.Nat.{ℕ, _+_, _*_, _≤_, _-_}
 use native.Mathlib.Omega.{arith}
-use mathlib.Core.Path.{_≡_, sym, ap, _∙_}
+use mathlib.Core.Path.{sym, ap, _∙_}
 use lib.ListN.{length, drop, length-drop}
 use lib.Seq.{take-all}
 use denote.Ref.{now}
-use Rattle.reader.specs.Family.{familyOf, leaves}
+use Rattle.reader.specs.Family.{leaves}
 use Rattle.reader.specs.Calls.{report}
 use Rattle.reader.proofs.Accepting.{accepted-header, whole-length, learns-accepted, learns-refused, part-accepted, part-refused}
 use borrow.Author.Needs.{needs}

@@ -4,7 +4,7 @@ use native.Mathlib.Omega.{arith}
 use mathlib.Core.List.{List}
 use mathlib.Core.Path.{_≡_, sym, ap}
 use lib.ListN.{length, getD}
-use borrow.Author.Count.{below-none, below-more}
+use borrow.Author.Count.{below-more}
 use Rattle.reader.proofs.Lists.{same-all, not-same}
 use borrow.Author.Needs.{needs}
 use Rattle.reader.proofs.bytes.same_bytes.Statement.{statement}

@@ -6,9 +6,8 @@ use mathlib.Core.Path.{sym, ap, _∙_}
 use lib.ListN.{length}
 use lib.Dec.{eqb}
 use denote.Ref.{now}
-use Rattle.reader.specs.Causes.{cause5}
 use Rattle.reader.proofs.Bools.{passes}
-use Rattle.reader.proofs.Judged.{LaidDown, laid-down, length-laid-down}
+use Rattle.reader.proofs.Judged.{laid-down, length-laid-down}
 use borrow.Author.Needs.{needs}
 use Rattle.reader.proofs.causes.bad_layout.Statement.{statement}
 use Rattle.reader.proofs.causes.bad_layout.Tie as tie

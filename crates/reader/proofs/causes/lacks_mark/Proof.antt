@@ -1,12 +1,14 @@
 -- Under 16 bytes, or the first four bytes are not the mark.
-use mathlib.Core.Path.{sym, _∙_}
 use native.Mathlib.Omega.{arith}
+use mathlib.Core.Bool.{not}
+use mathlib.Core.Path.{sym, ap}
+use lib.ListN.{length}
+use borrow.Author.Tests.{le-ltb}
 use denote.Ref.{now}
 use Rattle.reader.specs.Family.{mark}
 use Rattle.reader.specs.Causes.{cause1}
-use Rattle.reader.proofs.Bools.{passes, clash}
-use Rattle.reader.proofs.Lists.{same-equal, same-is}
-use Rattle.reader.proofs.Judged.{marked, from-marked}
+use Rattle.reader.proofs.Bools.{passes}
+use Rattle.reader.proofs.Judged.{marked}
 use borrow.Author.Needs.{needs}
 use Rattle.reader.proofs.causes.lacks_mark.Statement.{statement}
 use Rattle.reader.proofs.causes.lacks_mark.Tie as tie
@@ -30,12 +32,8 @@ same-bytes-requires : tie.Need-same-bytes-requires
 same-bytes-requires c κs = search needs
 
 returns-2 : tie.Need-returns-2
-unfolding mark
-returns-2 c = sym (from-marked (now (c .before .before .before .before .before .before .args .file)) (c .before .before .before .before .if1 .left) (same-equal _ _ (sym (c .before .same-bytes .ensures) ∙ c .if2 .taken)))
-
-returns-3 : tie.Need-returns-3
-unfolding mark
-returns-3 c = sym (passes _ (λ f. clash (same-is _ _ (marked (now (c .before .before .before .before .before .before .args .file)) f .1)) (sym (c .before .same-bytes .ensures) ∙ c .if2 .left)))
+unfolding cause1 mark
+returns-2 c = rw (le-ltb (length (now (c .before .before .before .before .before .args .file))) 16 (c .before .before .before .if1 .left)) (ap not (c .same-bytes .ensures))
 
 pub lacks-mark-spec : {M : Type 1} → statement M
 lacks-mark-spec =
@@ -47,5 +45,4 @@ lacks-mark-spec =
     part-same-bytes-end
     slice-aggregate-same-bytes
     same-bytes-requires
-    returns-2
-    returns-3)
+    returns-2)

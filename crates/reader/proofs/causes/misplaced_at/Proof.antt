@@ -1,7 +1,6 @@
 -- Each test is one of the facts of a region on the leaves.
 use native.Mathlib.Omega.{arith}
 use mathlib.Core.Path.{sym, _∙_, ap}
-use Prim.Native.Nat.{ℕ}
 use denote.Ref.{now}
 use lib.Dec.{ltb}
 use Rattle.reader.specs.Family.{regionAt}

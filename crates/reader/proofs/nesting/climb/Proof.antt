@@ -1,5 +1,5 @@
 -- The climb keeps every region that reaches the first leaf of the k-th one; it falls, since a parent comes earlier.
-use Prim.Native.Nat.{ℕ, suc, _≤_, _<_, _-_, _+_}
+use Prim.Native.Nat.{_-_}
 use native.Mathlib.Omega.{arith}
 use mathlib.Core.Path.{_≡_, sym, subst, _∙_}
 use denote.Ref.{now}

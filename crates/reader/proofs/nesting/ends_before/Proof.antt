@@ -1,6 +1,5 @@
 -- There is no region of the number 0; any other is the one before it in counting from 0.
 use native.Mathlib.Omega.{arith}
-use mathlib.Core.Bool.{Bool, not, _&&_}
 use mathlib.Core.Path.{sym, ap, _∙_}
 use Prim.Native.Nat.{ℕ, _-_}
 use lib.Dec.{ltb}

@@ -1,14 +1,13 @@
 -- The loop has found the regions before k nested, and has written their parents.
-use Prim.Native.Nat.{ℕ, _≤_, _<_, _-_}
+use Prim.Native.Nat.{_≤_, _<_, _-_}
 use native.Mathlib.Omega.{arith}
-use mathlib.Core.Bool.{true, false}
 use mathlib.Core.Path.{_≡_, refl, sym, _∙_}
 use lib.ListN.{length, length-set}
 use denote.Ref.{now}
 use Rattle.reader.specs.Bytes.{numberAt}
 use Rattle.reader.specs.Family.{familyOf, region, regionCount}
 use Rattle.reader.specs.WellFormed.{NestedBelow, ParentsBelow}
-use Rattle.reader.specs.Climb.{Filled, endsBefore}
+use Rattle.reader.specs.Climb.{endsBefore}
 use Rattle.reader.proofs.Bools.{clash}
 use Rattle.reader.proofs.Parsed.{regions-read, region-read, held-first, held-last}
 use Rattle.reader.proofs.Climbing.{climbed-crosses, climbed-parent, climbed-nested, nested-more, parents-more, clear-if-nested}

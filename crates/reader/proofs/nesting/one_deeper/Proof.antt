@@ -1,8 +1,7 @@
 -- By cases on the number.
-use Prim.Native.Nat.{ℕ, suc, _-_}
+use Prim.Native.Nat.{_-_}
 use native.Mathlib.Omega.{arith}
 use native.Mathlib.Numerals.{add-one}
-use mathlib.Core.Path.{sym}
 use borrow.Author.Tests.{ne-eqb}
 use Rattle.reader.specs.Climb.{oneDeeper}
 use borrow.Author.Needs.{needs}

@@ -1,8 +1,8 @@
 -- The loop has counted the regions around each of the first k, and none has more than 63.
-use Prim.Native.Nat.{ℕ, _≤_, _<_, _-_}
+use Prim.Native.Nat.{_≤_, _<_, _-_}
 use native.Mathlib.Omega.{arith}
 use mathlib.Core.Path.{_≡_, sym, _∙_}
-use lib.ListN.{length, getD, length-set}
+use lib.ListN.{length, length-set}
 use denote.Ref.{now}
 use Rattle.reader.specs.Bytes.{numberAt}
 use Rattle.reader.specs.Family.{familyOf, regionCount}
