@@ -21,6 +21,7 @@ use Rattle.bounds.proofs.Nesting.{has-facts, has-holds}
 use Rattle.reduction.specs.Reduction.{live, livePeptides, firstOf, lastOf}
 use Rattle.reduction.specs.Steps.{firstLive, lastLive}
 use Rattle.reduction.specs.Passes.{LiveUpTo, Next, Nexts, Lasts, within}
+use Rattle.reduction.proofs.Selected.{eqb-bit, selected-at}
 use Rattle.reduction.proofs.FirstLast.{firstOf-small, firstOf-member, firstOf-is, lastOf-small, lastOf-member, lastOf-atLeast, lastOf-is}
 use Rattle.reduction.proofs.Stretches.{live-in, in-live}
 use Rattle.reduction.proofs.DeadPeptides.{range-z, high-small}
@@ -112,15 +113,6 @@ passing-steps X p b v B room e n =
     here = e ∙ ap (λ (k : ℕ). cond (X (p + 1)) (p + 1) k) (n .last) ∙ sym (last-next X p)
 
 -- The selected peptides are the live ones.
-
-eqb-bit : (b : Bool) → eqb (cond b 1 0) 1 ≡ b
-eqb-bit true = refl
-eqb-bit false = refl
-
-pub selected-at : (L : List ℕ) (p : ℕ) → 1 ≤ p → selected L p ≡ eqb (getD L (p - 1) 0) 1
-unfolding selected
-selected-at L zero h = absurd (omega arith)
-selected-at L (suc p) h = ap (λ (k : ℕ). eqb (getD L k 0) 1) (omega arith)
 
 module _ (F : Family) (M : List ℕ) (right : LiveUpTo F (F .peptides) M) where
   selected-live : (p : ℕ) → 1 ≤ p → p ≤ F .peptides → selected M p ≡ live (rangesOf F) p
