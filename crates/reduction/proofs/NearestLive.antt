@@ -6,7 +6,7 @@ use native.Mathlib.Numerals.{add-one}
 use native.Mathlib.Omega.{arith}
 use mathlib.Core.Bool.{Bool, true, false, cond}
 use mathlib.Core.List.{List}
-use mathlib.Core.Logic.{_⊎_, ⊎-elim}
+use mathlib.Core.Logic.{⊎-elim}
 use mathlib.Core.Path.{_≡_, refl, sym, ap, subst, _∙_}
 use lib.ListN.{length, getD, set}
 use lib.Seq.{getD-set-same, getD-set-other}
@@ -18,13 +18,14 @@ use Rattle.bounds.specs.Ranges.{Range, Peptides, rangesOf, rangeAt}
 use Rattle.bounds.specs.Selections.{selected}
 use Rattle.bounds.proofs.Members.{test, clash}
 use Rattle.bounds.proofs.Nesting.{has-facts, has-holds}
+use Rattle.bounds.proofs.RowTotals.{range-z}
 use Rattle.reduction.specs.Reduction.{live, livePeptides, firstOf, lastOf}
 use Rattle.reduction.specs.Steps.{firstLive, lastLive}
 use Rattle.reduction.specs.Passes.{LiveUpTo, Next, Nexts, Lasts, within}
 use Rattle.reduction.proofs.Selected.{eqb-bit, selected-at}
 use Rattle.reduction.proofs.FirstLast.{firstOf-small, firstOf-member, firstOf-is, lastOf-small, lastOf-member, lastOf-atLeast, lastOf-is}
 use Rattle.reduction.proofs.Stretches.{live-in, in-live}
-use Rattle.reduction.proofs.DeadPeptides.{range-z, high-small}
+use Rattle.reduction.proofs.DeadPeptides.{high-small}
 
 -- The first one from each number on.
 
