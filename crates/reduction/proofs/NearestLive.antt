@@ -21,7 +21,7 @@ use Rattle.bounds.proofs.Nesting.{has-facts, has-holds}
 use Rattle.bounds.proofs.RowTotals.{range-z}
 use Rattle.reduction.specs.Reduction.{live, livePeptides, firstOf, lastOf}
 use Rattle.reduction.specs.Steps.{firstLive, lastLive}
-use Rattle.reduction.specs.Passes.{LiveUpTo, Next, Nexts, Lasts, within}
+use Rattle.reduction.specs.Passes.{LiveUpTo, Next, Nexts, Lasts, ifWithin}
 use Rattle.reduction.proofs.Selected.{eqb-bit, selected-at}
 use Rattle.reduction.proofs.FirstLast.{firstOf-small, firstOf-member, firstOf-is, lastOf-small, lastOf-member, lastOf-atLeast, lastOf-is}
 use Rattle.reduction.proofs.Stretches.{live-in, in-live}
@@ -231,7 +231,7 @@ module _ (m : ℕ) (R : List Range) (r : Range) where
 
 module _ (F : Family) (k z low high : ℕ) (ez : z ≡ region F k .z) (el : low ≡ rangeAt F k .low) (eh : high ≡ rangeAt F k .high) where
   pub first-found :
-      (a v : ℕ) → Next (F .peptides) (live (rangesOf F)) (low + 1) a → v ≡ within z low high a
+      (a v : ℕ) → Next (F .peptides) (live (rangesOf F)) (low + 1) a → v ≡ ifWithin z low high a
       → v ≡ firstLive F (rangeAt F k)
   unfolding firstLive
   first-found a v n e =
@@ -240,7 +240,7 @@ module _ (F : Family) (k z low high : ℕ) (ez : z ≡ region F k .z) (el : low 
       ∙ rw (ez ∙ sym (range-z F k), eh) (ap (λ (x : ℕ). cond (eqb (rangeAt F k .z) 0) 0 x) (first-from (F .peptides) (rangesOf F) (rangeAt F k) a (rw el at n)))
 
   pub last-found :
-      WellFormed F → k < regionCount F → (b v : ℕ) → b ≡ lastOf high (live (rangesOf F)) → v ≡ within z low high b
+      WellFormed F → k < regionCount F → (b v : ℕ) → b ≡ lastOf high (live (rangesOf F)) → v ≡ ifWithin z low high b
       → v ≡ lastLive F (rangeAt F k)
   unfolding lastLive
   last-found w l b v is e =
