@@ -50,11 +50,6 @@ count-wider m X r q h =
 
 -- Up to a number.
 
-pub card-most : (n : ℕ) (X : Peptides) → card n X ≤ n
-unfolding card
-card-most zero X = omega arith
-card-most (suc n) X = omega (arith, card-most n X, bit-mono (X (suc n)) true (λ e. refl))
-
 pub card-up : (X : Peptides) (p q : ℕ) → p ≤ q → card p X ≤ card q X
 unfolding card
 card-up X p q h = le-ind (λ n. card p X ≤ card n X) (omega arith) (λ n k ih. omega arith) q h

@@ -4,7 +4,7 @@ use native.Mathlib.Nat.{eq-or-lt-of-le}
 use native.Mathlib.Omega.{arith}
 use mathlib.Core.Bool.{false, cond}
 use mathlib.Core.List.{List}
-use mathlib.Core.Logic.{_⊎_, ⊎-elim}
+use mathlib.Core.Logic.{⊎-elim}
 use mathlib.Core.Path.{_≡_, refl, sym, subst, _∙_}
 use lib.ListN.{length, set}
 use lib.Seq.{getD-set-same, getD-set-other}
@@ -12,14 +12,16 @@ use lib.Dec.{ltb}
 use borrow.Author.Tests.{ltb-true, ltb-false}
 use Rattle.reader.specs.Family.{Family, regionCount, region}
 use Rattle.reader.specs.WellFormed.{WellFormed}
-use Rattle.bounds.specs.Ranges.{Range, rangeOf, rangesOf, In, rangeAt}
-use Rattle.bounds.proofs.Members.{place, test, le-or-lt}
+use Rattle.bounds.specs.Ranges.{rangeOf, rangesOf, rangeAt}
+use Rattle.bounds.proofs.Members.{test, le-or-lt}
 use Rattle.bounds.proofs.Nesting.{has-facts, has-holds}
-use Rattle.bounds.proofs.Family.{ranges-length, range-in, noRange, range-at, upTo-mono}
+use Rattle.bounds.proofs.Family.{range-in, upTo-mono}
+use Rattle.bounds.proofs.RowTotals.{range-z, leaf-most}
+use Rattle.bounds.proofs.Walking.{of-region}
 use Rattle.reduction.specs.Reduction.{live}
 use Rattle.reduction.specs.Passes.{LiveMarked, LiveUpTo, Reached}
 use Rattle.reduction.proofs.Live.{dead-facts, dead-holds}
-use Rattle.reduction.proofs.OpenRegions.{below-next, upTo-small}
+use Rattle.reduction.proofs.OpenRegions.{below-next}
 
 -- The byte of one peptide more is written.
 
@@ -43,22 +45,7 @@ marked-more L M from to until v order room e k =
 pub marked-less : (L M : List ℕ) (from to until n : ℕ) → n ≤ to → LiveMarked L M from to until → LiveMarked L M from n until
 marked-less L M from to until n h k = record { old = k .old; new = λ p a l. k .new p a (omega arith) }
 
--- The ranges of a family by number.
-
--- a range of the family is that of a region
-pub record Numbered (F : Family) (r : Range) : Type 0 where
-  pub number : ℕ
-  pub small : number < regionCount F
-  pub is : r ≡ rangeAt F number
-
-pub numbered : (F : Family) (r : Range) → In r (rangesOf F) → Numbered F r
-numbered F r i =
-    let p = place (noRange F) (rangesOf F) r i in
-    record { number = p .at; small = omega (arith, ranges-length F, p .inRange); is = p .there ∙ range-at F (p .at) }
-
-pub range-z : (F : Family) (k : ℕ) → rangeAt F k .z ≡ region F k .z
-unfolding rangeOf
-range-z F k = refl
+-- The low and high ends of the ranges, in file order.
 
 module _ (F : Family) (w : WellFormed F) where
   -- regions begin in rising order, with their peptides too
@@ -72,7 +59,7 @@ module _ (F : Family) (w : WellFormed F) where
 
   pub high-small : (k : ℕ) → k < regionCount F → rangeAt F k .high ≤ F .peptides
   unfolding rangeOf
-  high-small k l = upTo-small F w (region F k .last) (w .ordered .last-leaf k l)
+  high-small k l = leaf-most w (region F k .last) (w .ordered .last-leaf k l)
 
 -- a region with z = 0 among the first k whose last peptide is u
 pub record DeadTo (F : Family) (k u : ℕ) : Type 0 where
@@ -118,13 +105,13 @@ module _ (F : Family) (w : WellFormed F) where
       unreached : ltb p u ≡ false → live (rangesOf F) (p + 1) ≡ false → ⊥
       unreached f l =
           let d = dead-facts (rangesOf F) (p + 1) l in
-          let n = numbered F (d .by) (d .member) in
-          let h = has-facts (rangeAt F (n .number)) (p + 1) (rw (n .is) at (d .holds)) in
-          let z : rangeAt F (n .number) .z ≡ 0 = rw (n .is) at (d .zero) in
+          let n = of-region F (d .by) (d .member) in
+          let h = has-facts (rangeAt F (n .at)) (p + 1) (rw (n .is) at (d .holds)) in
+          let z : rangeAt F (n .at) .z ≡ 0 = rw (n .is) at (d .zero) in
           ⊎-elim
-          (λ a. omega (arith, to (n .number) a (n .small), h .above))
-          (λ b. omega (arith, s .most (n .number) b z, h .upto, ltb-false p u f))
-          (le-or-lt k (n .number))
+          (λ a. omega (arith, to (n .at) a (n .few), h .above))
+          (λ b. omega (arith, s .most (n .at) b z, h .upto, ltb-false p u f))
+          (le-or-lt k (n .at))
 
   -- the bytes up to a peptide before those of the other regions
   settle :

@@ -14,9 +14,10 @@ use borrow.Author.Tests.{eqb-true, eqb-false}
 use Rattle.reader.specs.Lists.{someBelow}
 use Rattle.bounds.specs.Ranges.{Peptides, card}
 use Rattle.bounds.proofs.Members.{test}
+use Rattle.bounds.proofs.Selecting.{card-most}
 use Rattle.reduction.specs.Reduction.{rising, lastOf, leafLengths}
 use Rattle.reduction.specs.Writing.{withNumbers, endsAt, Marks, markedIn, Counts, regionNumbers}
-use Rattle.reduction.proofs.Counts.{card-most}
+use Rattle.reduction.proofs.Selected.{eqb-bit}
 use Rattle.reduction.proofs.Leaves.{leaves-count}
 use Rattle.reduction.proofs.NumberRows.{numbers-none, numbers-join}
 
@@ -72,11 +73,7 @@ module _ (m : ℕ) (A B : List ℕ) where
 -- the set that is marked is the set of the places that hold 1
 pub marked-set : (E : List ℕ) (X : Peptides) → Marks E X → markedIn E ≡ X
 unfolding markedIn
-marked-set E X marks = λ i p. (ap (λ (n : ℕ). eqb n 1) (marks p) ∙ back (X p)) i
-  where
-    back : (b : Bool) → eqb (cond b 1 0) 1 ≡ b
-    back true = refl
-    back false = refl
+marked-set E X marks = λ i p. (ap (λ (n : ℕ). eqb n 1) (marks p) ∙ eqb-bit (X p)) i
 
 pub marks-itself : (E : List ℕ) (X : Peptides) → Marks E X → Marks E (markedIn E)
 marks-itself E X marks = rw (marked-set E X marks) marks

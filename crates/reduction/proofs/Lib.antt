@@ -6,6 +6,7 @@ pub mod Grid
 pub mod Plain
 pub mod FirstLast
 pub mod Counts
+pub mod Selected
 pub mod Choices
 pub mod Listing
 pub mod Pigeonhole

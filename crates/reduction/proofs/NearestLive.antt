@@ -6,7 +6,7 @@ use native.Mathlib.Numerals.{add-one}
 use native.Mathlib.Omega.{arith}
 use mathlib.Core.Bool.{Bool, true, false, cond}
 use mathlib.Core.List.{List}
-use mathlib.Core.Logic.{_⊎_, ⊎-elim}
+use mathlib.Core.Logic.{⊎-elim}
 use mathlib.Core.Path.{_≡_, refl, sym, ap, subst, _∙_}
 use lib.ListN.{length, getD, set}
 use lib.Seq.{getD-set-same, getD-set-other}
@@ -18,12 +18,14 @@ use Rattle.bounds.specs.Ranges.{Range, Peptides, rangesOf, rangeAt}
 use Rattle.bounds.specs.Selections.{selected}
 use Rattle.bounds.proofs.Members.{test, clash}
 use Rattle.bounds.proofs.Nesting.{has-facts, has-holds}
+use Rattle.bounds.proofs.RowTotals.{range-z}
 use Rattle.reduction.specs.Reduction.{live, livePeptides, firstOf, lastOf}
 use Rattle.reduction.specs.Steps.{firstLive, lastLive}
-use Rattle.reduction.specs.Passes.{LiveUpTo, Next, Nexts, Lasts, within}
+use Rattle.reduction.specs.Passes.{LiveUpTo, Next, Nexts, Lasts, ifWithin}
+use Rattle.reduction.proofs.Selected.{eqb-bit, selected-at}
 use Rattle.reduction.proofs.FirstLast.{firstOf-small, firstOf-member, firstOf-is, lastOf-small, lastOf-member, lastOf-atLeast, lastOf-is}
 use Rattle.reduction.proofs.Stretches.{live-in, in-live}
-use Rattle.reduction.proofs.DeadPeptides.{range-z, high-small}
+use Rattle.reduction.proofs.DeadPeptides.{high-small}
 
 -- The first one from each number on.
 
@@ -112,15 +114,6 @@ passing-steps X p b v B room e n =
     here = e ∙ ap (λ (k : ℕ). cond (X (p + 1)) (p + 1) k) (n .last) ∙ sym (last-next X p)
 
 -- The selected peptides are the live ones.
-
-eqb-bit : (b : Bool) → eqb (cond b 1 0) 1 ≡ b
-eqb-bit true = refl
-eqb-bit false = refl
-
-pub selected-at : (L : List ℕ) (p : ℕ) → 1 ≤ p → selected L p ≡ eqb (getD L (p - 1) 0) 1
-unfolding selected
-selected-at L zero h = absurd (omega arith)
-selected-at L (suc p) h = ap (λ (k : ℕ). eqb (getD L k 0) 1) (omega arith)
 
 module _ (F : Family) (M : List ℕ) (right : LiveUpTo F (F .peptides) M) where
   selected-live : (p : ℕ) → 1 ≤ p → p ≤ F .peptides → selected M p ≡ live (rangesOf F) p
@@ -238,7 +231,7 @@ module _ (m : ℕ) (R : List Range) (r : Range) where
 
 module _ (F : Family) (k z low high : ℕ) (ez : z ≡ region F k .z) (el : low ≡ rangeAt F k .low) (eh : high ≡ rangeAt F k .high) where
   pub first-found :
-      (a v : ℕ) → Next (F .peptides) (live (rangesOf F)) (low + 1) a → v ≡ within z low high a
+      (a v : ℕ) → Next (F .peptides) (live (rangesOf F)) (low + 1) a → v ≡ ifWithin z low high a
       → v ≡ firstLive F (rangeAt F k)
   unfolding firstLive
   first-found a v n e =
@@ -247,7 +240,7 @@ module _ (F : Family) (k z low high : ℕ) (ez : z ≡ region F k .z) (el : low 
       ∙ rw (ez ∙ sym (range-z F k), eh) (ap (λ (x : ℕ). cond (eqb (rangeAt F k .z) 0) 0 x) (first-from (F .peptides) (rangesOf F) (rangeAt F k) a (rw el at n)))
 
   pub last-found :
-      WellFormed F → k < regionCount F → (b v : ℕ) → b ≡ lastOf high (live (rangesOf F)) → v ≡ within z low high b
+      WellFormed F → k < regionCount F → (b v : ℕ) → b ≡ lastOf high (live (rangesOf F)) → v ≡ ifWithin z low high b
       → v ≡ lastLive F (rangeAt F k)
   unfolding lastLive
   last-found w l b v is e =

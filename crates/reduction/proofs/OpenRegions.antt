@@ -1,7 +1,6 @@
 -- The pass over the leaves that finds the low and high ends of the regions: which have begun, and which are open.
 use Prim.Native.Nat.{ℕ, _+_, _-_, _<_, _≤_}
 use native.Mathlib.Nat.{eq-or-lt-of-le}
-use native.Mathlib.Numerals.{add-one}
 use native.Mathlib.Omega.{arith}
 use mathlib.Core.Bool.{cond}
 use mathlib.Core.List.{List}
@@ -11,13 +10,10 @@ use lib.ListN.{length, getD, set}
 use lib.Seq.{getD-set-same, getD-set-other}
 use lib.Dec.{eqb}
 use borrow.Author.Tests.{eqb-true, eqb-false}
-use Rattle.reader.specs.Family.{Family, leaves, regionCount, region, leafLength, peptidesUpTo}
+use Rattle.reader.specs.Family.{Family, leaves, regionCount, region, peptidesUpTo}
 use Rattle.reader.specs.WellFormed.{WellFormed, IsParent}
-use Rattle.reader.proofs.Parsed.{length-leaf}
-use Rattle.reader.proofs.Walk.{up-to-next, up-to-end}
 use Rattle.bounds.specs.Ranges.{rangeOf, rangeAt}
 use Rattle.bounds.proofs.Members.{test, le-or-lt}
-use Rattle.bounds.proofs.Family.{upTo-mono}
 use Rattle.reduction.specs.Passes.{Lowered, Begun, Open, Ends}
 
 -- what is below k + 1 is k or below k
@@ -37,16 +33,7 @@ more-stored L k v f room old new i l =
     (λ b. getD-set-other L k i v 0 (λ e. omega arith) ∙ old i b)
     (below-next l)
 
--- Peptides up to a leaf.
-
--- the leaf after j others
-pub next-leaf : (F : Family) (j : ℕ) → peptidesUpTo F j + leafLength F (j + 1) ≡ peptidesUpTo F (j + 1)
-next-leaf F j = omega (arith, up-to-next F j, length-leaf F j, ap (leafLength F) (add-one j))
-
 module _ (F : Family) (w : WellFormed F) where
-  pub upTo-small : (j : ℕ) → j ≤ leaves F → peptidesUpTo F j ≤ F .peptides
-  upTo-small j h = omega (arith, upTo-mono F j (leaves F) h, up-to-end F (leaves F) (omega arith), w .lengths-sum)
-
   first-rises : (i j : ℕ) → i ≤ j → j < regionCount F → region F i .first ≤ region F j .first
   first-rises i j h l = ⊎-elim (λ e. rw e (omega arith)) (λ b. w .ordered .rising i j b l) (eq-or-lt-of-le h)
 

@@ -191,13 +191,3 @@ reduced-equal {m} {Q} {R} lQ lR same =
     ordered-same (reduced m Q) (reduced m R) (reduced-ordered m Q) (reduced-ordered m R)
     (λ x i. reduced-holds m R x (written-there lQ lR same x (reduced-facts m Q x i)))
     (λ x i. reduced-holds m Q x (written-there lR lQ (same-swap same) x (reduced-facts m R x i)))
-
--- Equal reduced lists have the same admissible sets.
-pub equal-same : {m : ℕ} {Q R : List Range} → Laminar m Q → Laminar m R → reduced m Q ≡ reduced m R → SameAdmissible m Q R
-equal-same {m} {Q} {R} lQ lR e =
-    let q = reduced-same m Q lQ in
-    let r = reduced-same m R lR in
-    record {
-      there = λ A h. r .back A (rw e at (q .there A h));
-      back = λ A h. q .back A (rw e (r .there A h));
-    }

@@ -6,7 +6,7 @@ use mathlib.Core.Path.{_≡_, refl, sym, ap, ap₂, _∙_}
 use native.Mathlib.Nat.{zero-add}
 use native.Mathlib.Numerals.{add-one}
 use native.Mathlib.Omega.{arith}
-use lib.ListN.{length, getD, take, drop, length-append, length-map, List·getD-append}
+use lib.ListN.{length, getD, take, drop, length-append, length-map}
 use lib.Seq.{sets, sets-eq, take-suc, take-all}
 use lib.Dec.{eqb}
 use Rattle.reader.specs.Lists.{someBelow}
@@ -27,6 +27,7 @@ use Rattle.reduction.proofs.RunOrStretch.{plain, first}
 use Rattle.reduction.proofs.Leaves.{leaves-count}
 use Rattle.reduction.proofs.Accepted.{reduced-wellformed}
 use Rattle.reduction.proofs.OneFile.{reduced-file-fits}
+use Rattle.reduction.proofs.ListFronts.{begins-at, begins-room, map-at}
 use Rattle.reduction.proofs.NumberRows.{bytes-length, bytes-join, sets-join}
 use Rattle.reduction.proofs.LeafEnds.{marked-set, region-numbers-next}
 
@@ -34,11 +35,6 @@ use Rattle.reduction.proofs.LeafEnds.{marked-set, region-numbers-next}
 
 abbrev noRange : Range
 noRange = record { from = 0; to = 0; low = 0; high = 0; z = 0 }
-
-map-at : {B : Type 0} (f : Range → B) (Q : List Range) (d : B) (k : ℕ) → k < length Q → getD (map f Q) k d ≡ f (getD Q k noRange)
-map-at f [] d k h = absurd (omega arith)
-map-at f (q ∷ Q) d zero h = refl
-map-at f (q ∷ Q) d (suc k) h = map-at f Q d k (omega arith)
 
 abbrev noRegion : Region
 noRegion = record { first = 0; last = 0; z = 0 }
@@ -49,14 +45,11 @@ fields-join [] qs = refl
 fields-join (r ∷ rs) qs = ap (λ (l : List ℕ). r .first ∷ r .last ∷ r .z ∷ l) (fields-join rs qs)
 
 module _ (f : Range → ℕ) (Q : List Range) (L : List ℕ) (b : Begins (map f Q) L) where
-  begins-at : (k : ℕ) → k < length Q → getD L k 0 ≡ f (getD Q k noRange)
-  begins-at k h =
-      ap (λ (l : List ℕ). getD l k 0) (b .1)
-      ∙ List·getD-append (map f Q) (b .0) 0 k (omega (arith, length-map Q f))
-      ∙ map-at f Q 0 k h
+  number-at : (k : ℕ) → k < length Q → getD L k 0 ≡ f (getD Q k noRange)
+  number-at k h = begins-at (map f Q) L b k (omega (arith, length-map Q f)) ∙ map-at f Q noRange 0 k h
 
   begins-length : length Q ≤ length L
-  begins-length = omega (arith, ap length (b .1), length-append (map f Q) (b .0), length-map Q f)
+  begins-length = omega (arith, begins-room (map f Q) L b, length-map Q f)
 
 -- some range passes, or some place of the list does
 some-below : (t : Range → Bool) (Q : List Range) (g : ℕ → Bool) → ((k : ℕ) → k < length Q → g k ≡ t (getD Q k noRange)) → someBelow (length Q) g ≡ some t Q
@@ -74,8 +67,8 @@ module _ (m : ℕ) (Q : List Range) (plain : (q : Range) → In q Q → Plain m 
   at-range : (k : ℕ) → k < length Q → (getD A k 0 - 1 ≡ getD Q k noRange .low) × (getD B k 0 ≡ getD Q k noRange .high)
   at-range k h =
       let w = plain (getD Q k noRange) (in-at noRange Q k h) in
-      let a = begins-at (λ q. q .from) Q A firsts k h in
-      let b = begins-at (λ q. q .to) Q B lasts k h in
+      let a = number-at (λ q. q .from) Q A firsts k h in
+      let b = number-at (λ q. q .to) Q B lasts k h in
       (omega arith, omega arith)
 
   ends-are : endsAt m (length Q) A B ≡ endsLeaf m Q
@@ -93,9 +86,9 @@ module _ (m : ℕ) (Q : List Range) (plain : (q : Range) → In q Q → Plain m 
         line = h;
         firsts = begins-length (λ q. q .from) Q A firsts;
         lasts = begins-length (λ q. q .to) Q B lasts;
-        first = λ k l. omega (arith, begins-at (λ q. q .from) Q A firsts k l, some (getD Q k noRange) (in-at noRange Q k l));
-        order = λ k l. omega (arith, begins-at (λ q. q .from) Q A firsts k l, begins-at (λ q. q .to) Q B lasts k l, plain (getD Q k noRange) (in-at noRange Q k l) .order);
-        last = λ k l. omega (arith, begins-at (λ q. q .to) Q B lasts k l, plain (getD Q k noRange) (in-at noRange Q k l) .small);
+        first = λ k l. omega (arith, number-at (λ q. q .from) Q A firsts k l, some (getD Q k noRange) (in-at noRange Q k l));
+        order = λ k l. omega (arith, number-at (λ q. q .from) Q A firsts k l, number-at (λ q. q .to) Q B lasts k l, plain (getD Q k noRange) (in-at noRange Q k l) .order);
+        last = λ k l. omega (arith, number-at (λ q. q .to) Q B lasts k l, plain (getD Q k noRange) (in-at noRange Q k l) .small);
       }
 
   -- The numbers of the regions.
@@ -110,7 +103,7 @@ module _ (m : ℕ) (Q : List Range) (plain : (q : Range) → In q Q → Plain m 
         let q = getD Q k noRange in
         let w = plain q (in-at noRange Q k h) in
         let e = at-range k h in
-        rw (map-at (regionOf X) Q noRegion k h, e .0, e .1, begins-at (λ q. q .z) Q Z zs k h, counts (q .low) (omega arith), counts (q .high) (omega arith))
+        rw (map-at (regionOf X) Q noRange noRegion k h, e .0, e .1, number-at (λ q. q .z) Q Z zs k h, counts (q .low) (omega arith), counts (q .high) (omega arith))
 
     some-regions : (k : ℕ) → k ≤ length Q → regionNumbers k C A B Z ≡ regionFields (take k regions)
     unfolding regionNumbers rising regionFields

@@ -12,8 +12,8 @@ use Rattle.bounds.specs.Ranges.{Range, card, rangesOf, In}
 use Rattle.bounds.proofs.Members.{in-at, clash}
 use Rattle.bounds.proofs.Counting.{card-less, none}
 use Rattle.bounds.proofs.Family.{ranges-length}
+use Rattle.bounds.proofs.Selecting.{card-most}
 use Rattle.reduction.specs.Reduction.{endsLeaf, leafLengths, writtenFamily}
-use Rattle.reduction.proofs.Counts.{card-most}
 use Rattle.reduction.proofs.Leaves.{leaves-count, leaves-positive, peptides-read}
 use Rattle.reduction.proofs.Plain.{Tidy}
 use Rattle.reduction.proofs.ReadBack.{again, ends-m, ranges-again, in-map}

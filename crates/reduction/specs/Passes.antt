@@ -60,8 +60,8 @@ pub record Ending (F : Family) (P : List ℕ) (j sum c : ℕ) (H : List ℕ) : T
   pub opened : Open F j j H c
   pub room : regionCount F ≤ length H
 
--- the lists have room for every region
-pub record Roomy (F : Family) (A B : List ℕ) : Type 0 where
+-- each list has a place for every region
+pub record RoomForRegions (F : Family) (A B : List ℕ) : Type 0 where
   pub first : regionCount F ≤ length A
   pub second : regionCount F ≤ length B
 
@@ -74,7 +74,7 @@ pub record Ends (F : Family) (L H : List ℕ) : Type 0 where
 pub record Ended (F : Family) (L H : List ℕ) : Type 0 where
   pub formed : WellFormed F
   pub ends : Ends F L H
-  pub rooms : Roomy F L H
+  pub rooms : RoomForRegions F L H
 
 -- The live peptides, in one pass over the regions and the peptides.
 
@@ -108,7 +108,7 @@ abbrev pub Lasts : ℕ → Peptides → List ℕ → Type 0
 Lasts m X B = (p : ℕ) → p ≤ m → getD B p 0 ≡ lastOf p X
 
 -- a byte for each of the m peptides, and a place for each of the numbers 0 to m + 1
-pub record Spacious (m : ℕ) (L A : List ℕ) : Type 0 where
+pub record RoomForPeptides (m : ℕ) (L A : List ℕ) : Type 0 where
   pub few : m ≤ 4096
   pub bytes : m ≤ length L
   pub places : m + 1 < length A
@@ -130,8 +130,8 @@ pub record WithNearest (F : Family) (L H A B : List ℕ) : Type 0 where
   pub places-before : F .peptides < length B
 
 -- p if it is a peptide of a region with that z, 1 or more, and these ends; else 0
-abbrev pub within : ℕ → ℕ → ℕ → ℕ → ℕ
-within z low high p = cond (eqb z 0) 0 (cond (ltb low p) (cond (leb p high) p 0) 0)
+abbrev pub ifWithin : ℕ → ℕ → ℕ → ℕ → ℕ
+ifWithin z low high p = cond (eqb z 0) 0 (cond (ltb low p) (cond (leb p high) p 0) 0)
 
 -- those of the first k regions are right
 abbrev pub FirstsUpTo : Family → ℕ → List ℕ → Type 0
@@ -141,7 +141,7 @@ abbrev pub LastsUpTo : Family → ℕ → List ℕ → Type 0
 LastsUpTo F k B = (i : ℕ) → i < k → getD B i 0 ≡ lastLive F (rangeAt F i)
 
 -- room for the live bytes, and for the first and last live peptides
-pub record Rooms (s L A B : List ℕ) : Type 0 where
+pub record RoomForStretches (s L A B : List ℕ) : Type 0 where
   pub lives : familyOf s .peptides ≤ length L
   pub firsts : regionCount (familyOf s) ≤ length A
   pub lasts : regionCount (familyOf s) ≤ length B

@@ -216,8 +216,8 @@ fn run_end(live: &[u8], first: Peptide, peptides: u16) -> Peptide
 }
 
 // Lists the runs that begin after the first peptide named, and up to the second, after the `count` ranges listed so far;
-// returns how many there are then. It holds for any choice of stretches listed so far, if these begin no later than the
-// first peptide named.
+// returns how many there are then. The promise holds for any choice of stretches listed so far, if these begin no later
+// than the first peptide named.
 fn append_runs(
     file: &[u8],
     live: &[u8],

@@ -15,10 +15,10 @@ ghost use lib.Dec.{eqb, ltb};
 ghost use Rattle.reader.specs.Family.{familyOf, regionCount};
 ghost use Rattle.bounds.specs.Selections.{selected};
 ghost use Rattle.reduction.specs.Steps.{Parented, Stretched};
-ghost use Rattle.reduction.specs.Passes.{Beginning, Began, Open, Ending, WithParents, Roomy, Ends, Ended, LiveMarked, Reached, LiveUpTo, Spacious, Nexts, Lasts, WithNearest, WithLives, within, FirstsUpTo, LastsUpTo, Rooms};
+ghost use Rattle.reduction.specs.Passes.{Beginning, Began, Open, Ending, WithParents, RoomForRegions, Ends, Ended, LiveMarked, Reached, LiveUpTo, RoomForPeptides, Nexts, Lasts, WithNearest, WithLives, ifWithin, FirstsUpTo, LastsUpTo, RoomForStretches};
 
 // Writes the low ends of the regions that begin after the last leaf and the last peptide passed, 0 before the first.
-// The number of regions that have begun.
+// Returns the number of regions that have begun.
 fn begin_regions(file: &[u8], leaf: Leaf, peptide: Peptide, begun: u16, lows: &mut [u16]) -> u16
     requires { ⌜ Beginning (familyOf (now file)) (leaf .0) (peptide .0) begun (now lows) ⌝ }
     ensures { λ r. ⌜ Began (familyOf (now (file .entry))) (leaf .0 + 1) begun r (now (lows .exit)) ⌝ }
@@ -39,7 +39,7 @@ fn begin_regions(file: &[u8], leaf: Leaf, peptide: Peptide, begun: u16, lows: &m
     k
 }
 
-// The number of the innermost open region: the last one that has begun here, or the one that was open.
+// Returns the number of the innermost open region: the last one that has begun here, or the one that was open.
 fn innermost(before: u16, begun: u16, outer: u16) -> u16
     ensures { λ r. ⌜ r ≡ cond (eqb before begun) outer begun ⌝ }
 {
@@ -47,7 +47,8 @@ fn innermost(before: u16, begun: u16, outer: u16) -> u16
 }
 
 // Writes the high ends of the regions that end at the leaf, whose last peptide is known: the innermost open region,
-// then its parents, since what is around an open region is open. The number of the innermost one that stays open.
+// then its parents, since what is around an open region is open. Returns the number of the innermost one
+// that stays open.
 fn end_regions(
     file: &[u8],
     parents: &[u16],
@@ -77,7 +78,7 @@ fn end_regions(
 // The low and high ends of every region. Each begins and ends once, so the pass is linear in leaves and regions.
 fn find_ends(file: &[u8], parents: &[u16], lows: &mut [u16], highs: &mut [u16])
     requires { ⌜ WithParents (familyOf (now file)) (now parents) ⌝ }
-    requires { ⌜ Roomy (familyOf (now file)) (now lows) (now highs) ⌝ }
+    requires { ⌜ RoomForRegions (familyOf (now file)) (now lows) (now highs) ⌝ }
     ensures { λ _. ⌜ Ends (familyOf (now (file .entry))) (now (lows .exit)) (now (highs .exit)) ⌝ }
 {
     let leaves = leaf_count(file);
@@ -167,7 +168,7 @@ fn live_or(live: &[u8], peptide: Peptide, other: Peptide) -> Peptide
 
 // For each peptide the last live one up to it; 0 if there is none.
 fn fill_before(live: &[u8], m: u16, before: &mut [u16])
-    requires { ⌜ Spacious m (now live) (now before) ⌝ }
+    requires { ⌜ RoomForPeptides m (now live) (now before) ⌝ }
     ensures { λ _. ⌜ Lasts m (selected (now (live .entry))) (now (before .exit)) ⌝ }
 {
     let mut last = Peptide(0);
@@ -182,7 +183,7 @@ fn fill_before(live: &[u8], m: u16, before: &mut [u16])
 
 // For each peptide the first live one from it on; 0 if there is none.
 fn fill_after(live: &[u8], m: u16, after: &mut [u16])
-    requires { ⌜ Spacious m (now live) (now after) ⌝ }
+    requires { ⌜ RoomForPeptides m (now live) (now after) ⌝ }
     ensures { λ _. ⌜ Nexts m (selected (now (live .entry))) (now (after .exit)) ⌝ }
 {
     let mut next = Peptide(0);
@@ -197,7 +198,7 @@ fn fill_after(live: &[u8], m: u16, after: &mut [u16])
 
 // The peptide if it is one of a region with z ≥ 1 and these ends, else 0.
 fn if_within(z: u16, low: Peptide, high: Peptide, peptide: Peptide) -> Peptide
-    ensures { λ r. ⌜ r .0 ≡ within z (low .0) (high .0) (peptide .0) ⌝ }
+    ensures { λ r. ⌜ r .0 ≡ ifWithin z (low .0) (high .0) (peptide .0) ⌝ }
 {
     if z == 0 {
         return Peptide(0);
@@ -223,7 +224,7 @@ fn write_nearest(
     lasts: &mut [u16],
 )
     requires { ⌜ WithNearest (familyOf (now file)) (now lows) (now highs) (now after) (now before) ⌝ }
-    requires { ⌜ Roomy (familyOf (now file)) (now firsts) (now lasts) ⌝ }
+    requires { ⌜ RoomForRegions (familyOf (now file)) (now firsts) (now lasts) ⌝ }
     ensures { λ _. ⌜ FirstsUpTo (familyOf (now (file .entry))) (regionCount (familyOf (now (file .entry)))) (now (firsts .exit)) ⌝ }
     ensures { λ _. ⌜ LastsUpTo (familyOf (now (file .entry))) (regionCount (familyOf (now (file .entry)))) (now (lasts .exit)) ⌝ }
 {
@@ -253,7 +254,7 @@ fn write_stretches(
     lasts: &mut [u16],
 )
     requires { ⌜ WithLives (familyOf (now file)) (now lows) (now highs) (now live) ⌝ }
-    requires { ⌜ Roomy (familyOf (now file)) (now firsts) (now lasts) ⌝ }
+    requires { ⌜ RoomForRegions (familyOf (now file)) (now firsts) (now lasts) ⌝ }
     ensures { λ _. ⌜ FirstsUpTo (familyOf (now (file .entry))) (regionCount (familyOf (now (file .entry)))) (now (firsts .exit)) ⌝ }
     ensures { λ _. ⌜ LastsUpTo (familyOf (now (file .entry))) (regionCount (familyOf (now (file .entry)))) (now (lasts .exit)) ⌝ }
 {
@@ -274,7 +275,7 @@ pub(crate) fn find_stretches(
     lasts: &mut [u16],
 )
     requires { ⌜ Parented (now file) (now parents) ⌝ }
-    requires { ⌜ Rooms (now file) (now live) (now firsts) (now lasts) ⌝ }
+    requires { ⌜ RoomForStretches (now file) (now live) (now firsts) (now lasts) ⌝ }
     ensures { λ _. ⌜ Stretched (now (file .entry)) (now (live .exit)) (now (firsts .exit)) (now (lasts .exit)) ⌝ }
 {
     let mut lows = [0u16; 8191];

@@ -1,5 +1,5 @@
 -- The loop has found the first live peptide from each of p + 1 to m + 1 on.
-use Prim.Native.Nat.{_-_, _+_}
+use Prim.Native.Nat.{_+_}
 use native.Mathlib.Omega.{arith}
 use mathlib.Core.Path.{_≡_, refl}
 use lib.ListN.{length, length-set}

@@ -7,7 +7,9 @@ use denote.Ref.{now}
 use Rattle.reader.specs.Family.{familyOf, leaves, peptidesUpTo}
 use Rattle.reader.proofs.Walk.{nothing-before}
 use Rattle.reduction.specs.Passes.{Begun, Open}
-use Rattle.reduction.proofs.OpenRegions.{next-leaf, upTo-small, none-begun, none-open, regions-begin, ends-found}
+use Rattle.bounds.proofs.Family.{upTo-leaf}
+use Rattle.bounds.proofs.RowTotals.{leaf-most}
+use Rattle.reduction.proofs.OpenRegions.{none-begun, none-open, regions-begin, ends-found}
 use borrow.Author.Needs.{needs}
 use Rattle.reduction.proofs.stretch.find_ends.Statement.{statement}
 use Rattle.reduction.proofs.stretch.find_ends.Tie as tie
@@ -27,7 +29,7 @@ abbrev μ-loop : tie.MeasureT-loop
 
 -- the last peptide of the next leaf
 sums : (c : tie.After-leaf-length Inv-loop μ-loop) → c .before .before .before .before .before .before .before .loop .peptide + c .leaf-length .result ≡ peptidesUpTo (familyOf (now (c .before .before .before .before .before .before .before .before .before .before .before .before .before .args .file))) (c .before .before .before .before .before .before .before .loop .leaf + 1)
-sums c = omega (arith, c .before .before .before .before .before .before .before .loop .inv .4, c .leaf-length .ensures, next-leaf (familyOf (now (c .before .before .before .before .before .before .before .before .before .before .before .before .before .args .file))) (c .before .before .before .before .before .before .before .loop .leaf))
+sums c = omega (arith, c .before .before .before .before .before .before .before .loop .inv .4, c .leaf-length .ensures, upTo-leaf (familyOf (now (c .before .before .before .before .before .before .before .before .before .before .before .before .before .args .file))) (c .before .before .before .before .before .before .before .loop .leaf))
 
 leaf-count-requires : tie.Need-leaf-count-requires Inv-loop μ-loop
 leaf-count-requires c κs = search needs
@@ -59,7 +61,7 @@ leaf-length-requires c κs = search needs
 add-peptide : tie.Need-add-peptide Inv-loop μ-loop
 add-peptide c =
     let w = c .before .before .before .before .before .before .before .before .before .before .before .before .before .pre .0 .formed in
-    omega (arith, sums c, upTo-small _ w (c .before .before .before .before .before .before .before .loop .leaf + 1) (omega (arith, c .before .before .before .before .before .before .before .loop .inv .1, c .before .before .before .before .before .before .loop-test .taken)), w .peptides-most)
+    omega (arith, sums c, leaf-most w (c .before .before .before .before .before .before .before .loop .leaf + 1) (omega (arith, c .before .before .before .before .before .before .before .loop .inv .1, c .before .before .before .before .before .before .loop-test .taken)), w .peptides-most)
 
 end-regions-requires : tie.Need-end-regions-requires Inv-loop μ-loop
 end-regions-requires c κs =
