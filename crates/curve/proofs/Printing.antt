@@ -1,24 +1,21 @@
 -- What the program prints for each answer of the check and of the curve.
 use Prim.Native.Nat.{ℕ, zero, suc, _+_, _<_, _≤_}
-use native.Mathlib.Nat.{le-of-suc-le-suc}
 use native.Mathlib.Omega.{arith}
-use native.Mathlib.Numerals.{add-one}
-use mathlib.Core.Bool.{Bool, true, false, not, cond, _||_}
+use mathlib.Core.Bool.{true, false, not, _||_}
 use mathlib.Core.List.{List, [], _∷_, _++_, append-assoc}
 use mathlib.Core.Path.{_≡_, refl, sym, ap, ap₂, _∙_}
 use mathlib.Core.Logic.{⊎-elim}
 use lib.ListN.{length, getD, List·getD-append}
 use lib.Dec.{eqb}
 use borrow.Author.Tests.{ne-eqb, eqb-true, eqb-false, le-ltb, ltb-false, not-true, not-false}
-use Rattle.reader.specs.Lists.{tabulate}
 use Rattle.reader.specs.Family.{Family, familyOf}
 use Rattle.reader.specs.Causes.{Cause, firstCause, headerCauses, familyCauses, fileCauses, Accepted}
 use Rattle.reader.proofs.Bools.{or-neither}
 use Rattle.reader.proofs.Lists.{length-tabulate}
-use Rattle.reader.proofs.First.{Numbered, first-fails, head-clear, join-clear, join-holds, clear-left, clear-right, none-or-some}
+use Rattle.reader.proofs.First.{Numbered, head-clear, join-clear, join-holds, clear-left, clear-right, none-or-some}
 use Rattle.reader.proofs.Judged.{peptides-counted}
 use Rattle.reader.proofs.Accepting.{accepted-header, file-numbered}
-use Rattle.bounds.specs.Curves.{curveValues, curveMarks, entry, markAt, cause11, cause12, cause13}
+use Rattle.bounds.specs.Curves.{curveValues, curveMarks, entry, markAt, cause11}
 use Rattle.bounds.specs.declared.Curved.{Curved}
 use Rattle.bounds.specs.declared.Curved.the-variants as curved
 use Rattle.bounds.specs.Calls.{Answers, reportCurve, declinedCurve, short, pathCauses, curveCauses}
