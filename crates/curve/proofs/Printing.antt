@@ -56,10 +56,10 @@ inputs-numbered s path = omega arith
 
 room :
     (path values marks : List ℕ) → 4097 ≤ length values → 4096 ≤ length marks → length path ≤ 4096
-    → firstCause (record { number = 16; holds = short (length path + 1) values || short (length path) marks } ∷ []) ≡ 0
+    → firstCause (record { number = 16; holds = short (length path + 1) (length values) || short (length path) (length marks) } ∷ []) ≡ 0
 unfolding firstCause short
 room path values marks lv lm few =
-    rw (or-neither (short (length path + 1) values) (short (length path) marks) (le-ltb (length values) (length path + 1) (omega arith)) (le-ltb (length marks) (length path) (omega arith)))
+    rw (or-neither (short (length path + 1) (length values)) (short (length path) (length marks)) (le-ltb (length values) (length path + 1) (omega arith)) (le-ltb (length marks) (length path) (omega arith)))
 
 module _ (s path : List ℕ) where
   pub prints-refusal : (n : ℕ) → n ≡ firstCause (inputCauses s path) → (n ≡ 0 → ⊥) → textOf (firstCause (inputCauses s path)) s path ≡ refusal n
@@ -87,7 +87,7 @@ module _ (s path : List ℕ) where
   pub curve-number : (values marks : List ℕ) → 4097 ≤ length values → 4096 ≤ length marks → firstCause (curveCauses s path values marks) ≡ firstCause (inputCauses s path)
   unfolding curveCauses inputCauses
   curve-number values marks lv lm =
-      let last : Cause = record { number = 16; holds = short (length path + 1) values || short (length path) marks } in
+      let last : Cause = record { number = 16; holds = short (length path + 1) (length values) || short (length path) (length marks) } in
       ap firstCause (sym (append-assoc (fileCauses s) (pathCauses (familyOf s .peptides) path) (last ∷ [])))
       ∙ ⊎-elim
       (λ z. join-clear (inputCauses s path) (last ∷ []) (inputs-numbered s path) z ∙ room path values marks lv lm (short-path z) ∙ sym z)
