@@ -99,14 +99,14 @@ module _ (file path values marks : List ℕ) where
       curve-stops _ (repeats-with _ path [] p first r) (λ z. omega arith)
 
   -- values under T + 1, or marks under T
-  pub curve-short : firstCause (inputCauses file path) ≡ 0 → (short (length path + 1) values || short (length path) marks) ≡ true
+  pub curve-short : firstCause (inputCauses file path) ≡ 0 → (short (length path + 1) (length values) || short (length path) (length marks)) ≡ true
       → CurveDone (record { number = 16; values = [] }) values marks true
   unfolding curveCauses
   curve-short e s =
       let first = sym (joined-holds file path _ e s) in
       curve-stops _ (declines-with _ path [] 16 first (λ z. omega arith) (λ z. omega arith)) (λ z. omega arith)
 
-  pub curve-writes : (v w : List ℕ) → firstCause (inputCauses file path) ≡ 0 → (short (length path + 1) values || short (length path) marks) ≡ false
+  pub curve-writes : (v w : List ℕ) → firstCause (inputCauses file path) ≡ 0 → (short (length path + 1) (length values) || short (length path) (length marks)) ≡ false
       → v ≡ curveValues (familyOf file) path ++ drop (length path + 1) values → w ≡ curveMarks (familyOf file) path ++ drop (length path) marks
       → CurveDone (record { number = 0; values = [] }) v w false
   unfolding curveCauses curveValues curveMarks

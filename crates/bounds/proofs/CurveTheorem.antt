@@ -28,7 +28,7 @@ use Rattle.bounds.proofs.Greedy.{respects-facts, respects-holds, greedy
 use Rattle.bounds.proofs.Formula.{formula3}
 use Rattle.bounds.proofs.Paths.{path-admissible, path-bound}
 use Rattle.bounds.proofs.Family.{family-laminar}
-use Rattle.bounds.proofs.PathLaws.{accepted-path}
+use Rattle.bounds.proofs.PathLaws.{or-false, accepted-path}
 use Rattle.bounds.proofs.Walking.{markedSet, stops, marked-stays, marked-grows, entry-next, mark-is}
 
 -- What the theorem says of the first t peptides of a path.
@@ -64,7 +64,7 @@ module _ {F : Family} {path : List ℕ} (well : WellFormed F) (is : Distinct (F 
   marked-same (suc t) h p =
       let before = marked-same t (omega arith) p in
       ⊎-elim
-      (λ e. ap₂ _||_ before (unmarked e) ∙ or-none (markedSet well is t p) ∙ sym (ap (λ (G : Peptides). G p) (marked-stays well is t h e)))
+      (λ e. ap₂ _||_ before (unmarked e) ∙ or-false (markedSet well is t p) ∙ sym (ap (λ (G : Peptides). G p) (marked-stays well is t h e)))
       (λ e. ap₂ _||_ before (taken e) ∙ or-swap (markedSet well is t p) (eqb p q) ∙ sym (ap (λ (G : Peptides). G p) (marked-grows well is t h e)))
       (test (stops well is t))
     where
@@ -87,10 +87,6 @@ module _ {F : Family} {path : List ℕ} (well : WellFormed F) (is : Distinct (F 
 
           turned : eqb q p ≡ eqb p q
           turned = ⊎-elim (λ t. t ∙ sym (eq-eqb p q (sym (eqb-true q p t)))) (λ f. f ∙ sym (ne-eqb p q (λ e. eqb-false q p f (sym e)))) (test (eqb q p))
-
-      or-none : (b : Bool) → (b || false) ≡ b
-      or-none true = refl
-      or-none false = refl
 
       or-swap : (a b : Bool) → (a || b) ≡ (b || a)
       or-swap true true = refl

@@ -9,7 +9,7 @@ use native.Mathlib.Omega.{arith}
 use Rattle.bounds.specs.Ranges.{Range, Peptides, has, card, count, those, parts, outside, In}
 use Rattle.bounds.specs.Bound.{total, value, bound, IsLargest}
 use Rattle.bounds.proofs.Members.{test, le-or-lt, clash, and-l, and-r, and-both, ands, in-those, those-in, sum-mono}
-use Rattle.bounds.proofs.Counting.{Subset, none, card-mono, card-but-one, adding, adding-other, count-mono, Contains, cover-in, partition-in}
+use Rattle.bounds.proofs.Counting.{Subset, none, card-mono, count-mono, Contains, cover-in, partition-in}
 use Rattle.bounds.proofs.Nesting.{Inside, inside-trans, Part, part-facts, inner, inner-facts, inner-holds, Below, inward}
 use Rattle.bounds.proofs.Laminar.{Laminar, meet, Hosts, member-hosts, parts-apart, in-a-part, Around, around-hosts, around-count, line, line-around}
 use Rattle.bounds.proofs.Totals.{total-is, bound-is}
@@ -191,24 +191,10 @@ formula3 {m} {R} l S = walked-largest l (chosen-walked m R S) (chosen-selected m
 pub largest-unique : {m : ℕ} {R : List Range} {S : Peptides} {v w : ℕ} → IsLargest m R S v → IsLargest m R S w → v ≡ w
 largest-unique a b = omega (arith, a .reached, b .reached, a .atMost (b .witness) (b .admissible), b .atMost (a .witness) (a .admissible))
 
--- A larger selection has no smaller bound,
+-- A larger selection has no smaller bound.
 pub bound-mono : {m : ℕ} {R : List Range} → Laminar m R → (S X : Peptides) → Subset m S X → bound m R S ≤ bound m R X
 bound-mono {m} {R} l S X h =
     let f = formula3 l S in
     let G = f .witness in
     let more = card-mono m (λ p. G p && S p) (λ p. G p && X p) (λ p a b e. search (ands, h)) in
     omega (arith, f .reached, formula3 l X .atMost G (f .admissible))
-
--- one more peptide adds at most one,
-pub bound-adding : {m : ℕ} {R : List Range} → Laminar m R → (S : Peptides) (p : ℕ) → bound m R (adding p S) ≤ suc (bound m R S)
-bound-adding {m} {R} l S p =
-    let f = formula3 l (adding p S) in
-    let G = f .witness in
-    let one = card-but-one m p (λ x. G x && adding p S x) (λ x. G x && S x) (λ x a b n h. rw (adding-other p S x n) at h) in
-    omega (arith, f .reached, formula3 l S .atMost G (f .admissible))
-
--- and the bound is no more than the selection.
-pub bound-card : {m : ℕ} {R : List Range} → Laminar m R → (S : Peptides) → bound m R S ≤ card m S
-bound-card {m} {R} l S =
-    let f = formula3 l S in
-    omega (arith, f .reached, card-mono m (λ p. f .witness p && S p) S (λ p a b e. search ands))

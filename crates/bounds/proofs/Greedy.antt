@@ -87,9 +87,6 @@ module _ (m : ℕ) (R : List Range) (G : Peptides) (p : ℕ) where
       let free = nowhere-facts (λ r. has r p && leb (r .z) (count m G r)) R (ap not e) r i in
       ⊎-elim (λ full. absurd (free (search (ands, le-leb)))) (λ less. less) (le-or-lt (r .z) (count m G r))
 
-  pub open-holds : ((r : Range) → In r R → has r p ≡ true → count m G r < r .z) → blocked m R G p ≡ false
-  open-holds h = refuted (blocked m R G p) (λ e. let s = blocked-facts e in omega (arith, s .filled, h (s .by) (s .member) (s .holds)))
-
   -- then the set with p respects what it respected
   pub open-respects : blocked m R G p ≡ false → Respects m R G → Respects m R (adding p G)
   open-respects e h r i =

@@ -7,7 +7,7 @@ use mathlib.Core.Logic.{_⊎_, inl, inr, ⊎-elim}
 use mathlib.Core.Path.{_≡_, refl, sym, _∙_, ap}
 use native.Mathlib.Omega.{arith}
 use lib.ListN.{length, getD}
-use Rattle.bounds.specs.Ranges.{Range, Peptides, has, card, count, those, inside, justInside, parts, outside, In}
+use Rattle.bounds.specs.Ranges.{Range, Peptides, has, card, count, those, justInside, parts, outside, In}
 use Rattle.bounds.proofs.Members.{Place, place, some-in, those-in}
 use Rattle.bounds.proofs.Counting.{card-same, Disjoint, Apart, Contains}
 use Rattle.bounds.proofs.Nesting.{has-facts, has-holds, Inside, inside-self, just-facts, part-holds, inner, part-around}
@@ -46,24 +46,6 @@ fits-at d (r ∷ R) h = (λ t i. first t (place d R t i), fits-at d R (λ i j le
 pub laminar-at : {m : ℕ} (d : Range) (R : List Range) → ((k : ℕ) → k < length R → Proper m (getD R k d))
     → ((i j : ℕ) → i < j → j < length R → Fit (getD R i d) (getD R j d)) → Laminar m R
 laminar-at d R own two = record { proper = λ r i. let p = place d R r i in rw (p .there) (own (p .at) (p .inRange)); fits = fits-at d R two }
-
-fits-those : (good : Range → Bool) (R : List Range) → Fits R → Fits (those good R)
-unfolding those
-fits-those good [] f = tt
-fits-those good (x ∷ R) f = go (good x) (fits-those good R (f .1))
-  where
-    go : (b : Bool) → Fits (those good R) → Fits (cond b (x ∷ those good R) (those good R))
-    go true rest = (λ t i. f .0 t (those-in good R t i .0), rest)
-    go false rest = rest
-
--- the members that pass a test are laminar
-pub laminar-those : {m : ℕ} {R : List Range} (good : Range → Bool) → Laminar m R → Laminar m (those good R)
-laminar-those {R = R} good l = record { proper = λ r i. l .proper r (those-in good R r i .0); fits = fits-those good R (l .fits) }
-
--- and so are the members inside q
-pub laminar-inner : {m : ℕ} {R : List Range} (q : Range) → Laminar m R → Laminar m (inner R q)
-unfolding inner
-laminar-inner q l = laminar-those (λ t. inside t q) l
 
 -- Two members.
 

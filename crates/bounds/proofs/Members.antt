@@ -1,6 +1,6 @@
 -- Tests read as facts; the members of a list, searches through it, and sums over it.
 use Prim.Native.Nat.{ℕ, zero, suc, _≤_, _<_}
-use mathlib.Core.Bool.{Bool, true, false, not, cond, _&&_}
+use mathlib.Core.Bool.{Bool, true, false, not, cond}
 use mathlib.Core.List.{List, [], _∷_}
 use mathlib.Core.Logic.{_⊎_, inl, inr, ⊎-elim}
 use mathlib.Core.Path.{_≡_, refl, sym, ap}
@@ -102,18 +102,6 @@ module _ {A : Type 0} where
   unfolding those
   those-same t u [] h = refl
   those-same t u (y ∷ L) h = cc (h y (inl refl), those-same t u L (λ x i. h x (inr i)))
-
-  pub those-those : (t u : A → Bool) (L : List A) → those t (those u L) ≡ those (λ x. u x && t x) L
-  unfolding those
-  those-those t u [] = refl
-  those-those t u (y ∷ L) = go (u y) (those-those t u L)
-    where
-      both : List A
-      both = those (λ x. u x && t x) L
-
-      go : (b : Bool) → those t (those u L) ≡ both → those t (cond b (y ∷ those u L) (those u L)) ≡ cond (b && t y) (y ∷ both) both
-      go true e = ap (λ M. cond (t y) (y ∷ M) M) e
-      go false e = e
 
   -- Sums.
 

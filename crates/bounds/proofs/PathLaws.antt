@@ -59,6 +59,10 @@ pub seen-none : (path S : List ℕ) → ((q : ℕ) → q < 4097 → getD S q 0 �
 unfolding someBelow
 seen-none path S h q l = h q l
 
+pub or-false : (b : Bool) → (b || false) ≡ b
+or-false true = refl
+or-false false = refl
+
 pub seen-more : (path S : List ℕ) (t p : ℕ) → length S ≡ 4097 → Seen path t S → p ≡ getD path t 0 → p < 4097 → Seen path (t + 1) (set S p 1)
 unfolding someBelow
 seen-more path S t p len seen e fits q l =
@@ -67,10 +71,6 @@ seen-more path S t p len seen e fits q l =
     (λ other. rw (add-one, ← e, ne-eqb p q (λ d. eqb-false q p other (sym d)), getD-set-other S p q 1 0 (eqb-false q p other)) (seen q l ∙ sym (ap bit (or-false (stands path t q)))))
     (is q p)
   where
-    or-false : (b : Bool) → (b || false) ≡ b
-    or-false true = refl
-    or-false false = refl
-
     is : (q p : ℕ) → (q ≡ p) ⊎ (eqb q p ≡ false)
     is q p = ⊎-elim (λ t. inl (eqb-true q p t)) inr (test (eqb q p))
 

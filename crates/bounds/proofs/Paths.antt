@@ -7,15 +7,14 @@ use mathlib.Core.Path.{_≡_, refl}
 use native.Mathlib.Omega.{arith}
 use lib.ListN.{length, getD, take}
 use lib.Seq.{take-suc}
-use Rattle.bounds.specs.Ranges.{Range, Peptides, card, count}
-use Rattle.bounds.specs.Bound.{total, bound, Admissible}
+use Rattle.bounds.specs.Ranges.{Range, card}
+use Rattle.bounds.specs.Bound.{bound, Admissible}
 use Rattle.bounds.proofs.Members.{clash, refuted, bit}
 use Rattle.bounds.proofs.Counting.{Subset, none}
-use Rattle.bounds.proofs.Nesting.{inner}
-use Rattle.bounds.proofs.Laminar.{Laminar, Hosts}
+use Rattle.bounds.proofs.Laminar.{Laminar}
 use Rattle.bounds.specs.Curves.{among}
-use Rattle.bounds.proofs.Greedy.{Respects, respects-holds, respects-none, blocked, mark-card, among-holds, greedy, greedy-snoc, greedy-new, walked}
-use Rattle.bounds.proofs.Formula.{walked-total, walked-exact, walked-bound}
+use Rattle.bounds.proofs.Greedy.{respects-holds, respects-none, blocked, mark-card, among-holds, greedy, greedy-snoc, greedy-new, walked}
+use Rattle.bounds.proofs.Formula.{walked-bound}
 
 -- a walk from no peptide marks only peptides of the path
 marks-among : (m : ℕ) (R : List Range) (ps : List ℕ) → Subset m (greedy m R none ps) (among ps)
@@ -42,14 +41,3 @@ pub entry-step : {m : ℕ} {R : List Range} → Laminar m R → (ps : List ℕ) 
     → 0 < getD ps t 0 → getD ps t 0 ≤ m → among (take t ps) (getD ps t 0) ≡ false
     → bound m R (among (take (suc t) ps)) ≡ bound m R (among (take t ps)) + bit (not (blocked m R (greedy m R none (take t ps)) (getD ps t 0)))
 entry-step l ps t h a b e = rw (take-suc ps t 0 h) (path-step l (take t ps) (getD ps t 0) a b e)
-
--- With the members inside q: from a set G that respects them, a walk ends with at least the total of q in q,
-pub path-total : {m : ℕ} {R : List Range} → Laminar m R → (q : Range) → Hosts R q → (G : Peptides) → Respects m (inner R q) G → (ps : List ℕ)
-    → total m R (among ps) q ≤ count m (greedy m (inner R q) G ps) q
-path-total {m} {R} l q hosts G h ps = walked-total l q hosts (walked m (inner R q) G ps h)
-
--- and from no peptide with exactly that.
-pub path-exact : {m : ℕ} {R : List Range} → Laminar m R → (q : Range) → Hosts R q → (ps : List ℕ)
-    → count m (greedy m (inner R q) none ps) q ≡ total m R (among ps) q
-path-exact {m} {R} l q hosts ps =
-    walked-exact l q hosts (walked m (inner R q) none ps (respects-none m (inner R q))) (marks-among m (inner R q) ps)

@@ -16,7 +16,7 @@ use Rattle.bounds.specs.Rows.{wholeLine, rowRange, leafBefore, lastLeaf}
 use Rattle.bounds.proofs.Members.{le-or-lt, refuted, place}
 use Rattle.bounds.proofs.Counting.{count-between, partition-in}
 use Rattle.bounds.proofs.Nesting.{Inside, just-facts, just-holds, part-facts}
-use Rattle.bounds.proofs.Laminar.{Laminar, Hosts, member-hosts, parts-apart, Around, around-hosts}
+use Rattle.bounds.proofs.Laminar.{Hosts, member-hosts, parts-apart, Around, around-hosts}
 use Rattle.bounds.proofs.Totals.{total-is}
 use Rattle.bounds.proofs.Family.{upTo-mono, upTo-most, noRange, ranges-length, range-at, range-in, family-laminar}
 
@@ -74,9 +74,6 @@ partSum F b f j = sumBelow j (λ k. cond (isPart F b k) (f (rangeAt F k)) 0)
 -- The regions in file order.
 
 module _ {F : Family} (w : WellFormed F) where
-  pub laminar : Laminar (F .peptides) (rangesOf F)
-  laminar = family-laminar w
-
   -- a member is the range of a region
   pub member-at : (t : Range) → In t (rangesOf F) → (k : ℕ) × (k < regionCount F) × (t ≡ rangeAt F k)
   member-at t i =
@@ -132,8 +129,8 @@ module _ {F : Family} (w : WellFormed F) where
 
   row-hosts : (b : ℕ) → b ≤ regionCount F → Hosts (rangesOf F) (rowRange F b)
   unfolding rowRange
-  row-hosts zero h = around-hosts laminar line-is-around
-  row-hosts (suc i) h = member-hosts laminar (rangeAt F i) (at-member i h)
+  row-hosts zero h = around-hosts (family-laminar w) line-is-around
+  row-hosts (suc i) h = member-hosts (family-laminar w) (rangeAt F i) (at-member i h)
 
   -- The parts of a row.
 
@@ -220,5 +217,5 @@ module _ {F : Family} (w : WellFormed F) where
       let m = F .peptides in
       let R = rangesOf F in
       let q = rowRange F b in
-      let split = partition-in m S (parts R q) q (parts-apart laminar q) (λ r i. let f = part-facts R q r i in row-hosts b h r (f .member) (f .just .inner)) in
+      let split = partition-in m S (parts R q) q (parts-apart (family-laminar w) q) (λ r i. let f = part-facts R q r i in row-hosts b h r (f .member) (f .just .inner)) in
       omega (arith, total-is m R S q, part-sum-all b (value m R S), part-sum-all b (count m S), row-counted S b h)

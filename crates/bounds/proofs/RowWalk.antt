@@ -24,7 +24,8 @@ use Rattle.reader.proofs.Walk.{nothing-before}
 use Rattle.bounds.proofs.Members.{le-or-lt}
 use Rattle.bounds.proofs.Totals.{bound-is}
 use Rattle.bounds.proofs.Selecting.{card-most}
-use Rattle.bounds.proofs.RowTotals.{range-z, laminar, line-is-around, isPart, partSum, part-here, part-deeper, part-after, part-sum-none, part-sum-one, part-sum-start, leaf-most, region-counted, row-total}
+use Rattle.bounds.proofs.Family.{family-laminar}
+use Rattle.bounds.proofs.RowTotals.{range-z, line-is-around, isPart, partSum, part-here, part-deeper, part-after, part-sum-none, part-sum-one, part-sum-start, leaf-most, region-counted, row-total}
 
 -- Stored totals.
 
@@ -300,6 +301,6 @@ module _ {F : Family} {selection : List ℕ} where
       ⊎-elim (λ e. e) (λ l. let k = r .at .region in absurd (omega (arith, walked .ahead l, w .ordered .first-last k l, w .ordered .last-leaf k l)))
       (eq-or-lt-of-le (walked .most)) in
       record {
-        bound = rw first at (row .total) ∙ sym (bound-is (laminar w) (line-is-around w) (selected selection));
+        bound = rw first at (row .total) ∙ sym (bound-is (family-laminar w) (line-is-around w) (selected selection));
         stored = rw (first, all) at (row .stored);
       }

@@ -16,7 +16,7 @@ use Rattle.reader.proofs.Accepting.{well-formed, file-numbered}
 use Rattle.bounds.specs.Selections.{cause14, boundOf}
 use Rattle.bounds.specs.Rows.{Ready}
 use Rattle.bounds.specs.declared.Bounded.the-variants as bounded
-use Rattle.bounds.specs.Calls.{reportBound, causesWithRoom, selectionCauses}
+use Rattle.bounds.specs.Calls.{reportBound, short, causesWithRoom, selectionCauses}
 use Rattle.bounds.proofs.Selecting.{right-length}
 
 module _ (file selection : List ℕ) (room : ℕ) where
@@ -32,13 +32,13 @@ module _ (file selection : List ℕ) (room : ℕ) where
 
   pub cause-16 : Accepted file → cause14 (familyOf file .peptides) selection ≡ false
       → firstCause (causesWithRoom file selection room) ≡ cond (ltb room (regionCount (familyOf file))) 16 0
-  unfolding causesWithRoom firstCause
+  unfolding causesWithRoom short firstCause
   cause-16 a h = join-clear (fileCauses file) _ (file-numbered file) a ∙ rw h
 
   -- Where none holds, the file is accepted, the selection has m bytes, and there is room.
   pub none-holds : firstCause (causesWithRoom file selection room) ≡ 0
       → record { accepted : Accepted file; whole : length selection ≡ familyOf file .peptides; room : regionCount (familyOf file) ≤ room }
-  unfolding causesWithRoom
+  unfolding causesWithRoom short
   none-holds h =
       let rest = clear-right (fileCauses file) _ (file-numbered file) h in
       let a = head-clear _ _ (omega arith) rest in

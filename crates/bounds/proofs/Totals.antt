@@ -2,14 +2,14 @@
 use Prim.Native.Nat.{ℕ, zero, suc, _+_, _<_, min}
 use mathlib.Core.Bool.{true, not, _&&_}
 use mathlib.Core.List.{List}
-use mathlib.Core.Path.{_≡_, refl, _∙_, ap, ap₂}
+use mathlib.Core.Path.{_≡_, refl, ap}
 use native.Mathlib.Omega.{arith}
 use lib.ListN.{length}
 use Rattle.bounds.specs.Ranges.{Range, Peptides, has, count, some, sumOver, inside, justInside, parts, outermost, outside, In}
 use Rattle.bounds.specs.Bound.{totalWithin, total, value, bound}
-use Rattle.bounds.proofs.Members.{clash, both-ways, and-both, ands, nowhere-facts, nowhere-holds, those-same, those-those, sum-same}
+use Rattle.bounds.proofs.Members.{clash, both-ways, nowhere-facts, nowhere-holds, those-same, sum-same}
 use Rattle.bounds.proofs.Counting.{SameSet, card-same, count-same}
-use Rattle.bounds.proofs.Nesting.{Inside, inside-facts, inside-holds, inside-trans, JustInside, just-facts, just-holds, Part, part-facts, inner, inner-facts, inner-holds, deep, deep-less, deep-most, Below, inward}
+use Rattle.bounds.proofs.Nesting.{Inside, inside-facts, inside-holds, JustInside, just-facts, just-holds, Part, part-facts, inner, deep, deep-less, deep-most, Below, inward}
 use Rattle.bounds.proofs.Laminar.{Laminar, Around, around-count, in-a-part}
 
 -- The equation.
@@ -58,47 +58,9 @@ module _ (m : ℕ) (R T : List Range) (S X : Peptides) (same : SameSet m S X) (P
   total-equal : (q : Range) → Equal q
   total-equal = inward R Equal equal-step
 
--- A total depends on the selection on 1 to m alone,
+-- A total depends on the selection on 1 to m alone.
 pub total-same : (m : ℕ) (R : List Range) (S X : Peptides) → SameSet m S X → (q : Range) → total m R S q ≡ total m R X q
 total-same m R S X h q = total-equal m R R S X h (λ r. Unit {0}) (λ q r v i. tt) (λ r v. refl) q tt
-
--- and so does the bound.
-pub bound-same : (m : ℕ) (R : List Range) (S X : Peptides) → SameSet m S X → bound m R S ≡ bound m R X
-unfolding bound
-bound-same m R S X h =
-    let values = sum-same (value m R S) (value m R X) (outermost R) (λ r i. value-same m R R S X r (total-same m R S X h r)) in
-    ap₂ _+_ values (card-same m (λ p. outside R p && S p) (λ p. outside R p && X p) (λ p l u. ap (λ b. outside R p && b) (h p l u)))
-
--- if all that is inside r is inside q, the members inside q settle what is just inside r
-just-inner : (R : List Range) (q r t : Range) → ((u : Range) → Inside u r → Inside u q)
-    → (inside t q && justInside (inner R q) t r) ≡ justInside R t r
-just-inner R q r t all =
-    both-ways (inside t q && justInside (inner R q) t r) (justInside R t r)
-    (λ e. just-holds (there (just-facts (inner R q) t r (search ands)))) (λ e. back (just-facts R t r e))
-  where
-    there : JustInside (inner R q) t r → JustInside R t r
-    there j = record { inner = j .inner; next = λ u i tu ur. j .next u (inner-holds R i (all u ur)) tu ur }
-
-    back : JustInside R t r → (inside t q && justInside (inner R q) t r) ≡ true
-    back j =
-        let k : JustInside (inner R q) t r = record { inner = j .inner; next = λ u i tu ur. j .next u (inner-facts R q u i .0) tu ur } in
-        and-both (inside t q) (justInside (inner R q) t r) (inside-holds (all t (j .inner))) (just-holds k)
-
-inner-parts : (R : List Range) (q r : Range) → ((t : Range) → Inside t r → Inside t q) → parts (inner R q) r ≡ parts R r
-unfolding parts inner
-inner-parts R q r all =
-    let both = those-those (λ t. justInside (inner R q) t r) (λ t. inside t q) R in
-    both ∙ those-same (λ t. inside t q && justInside (inner R q) t r) (λ t. justInside R t r) R (λ t i. just-inner R q r t all)
-
--- The total of q depends on the members inside q alone.
-pub total-inner : (m : ℕ) (R : List Range) (S : Peptides) (q : Range) → total m R S q ≡ total m (inner R q) S q
-total-inner m R S q = total-equal m R (inner R q) S S (λ p l u. refl) Under down (inner-parts R q) q (λ t n. n)
-  where
-    Under : Range → Type 0
-    Under r = (t : Range) → Inside t r → Inside t q
-
-    down : (u r : Range) → Under u → Inside r u → Under r
-    down u r all i t n = all t (inside-trans n i)
 
 -- The bound.
 

@@ -17,15 +17,16 @@ use Rattle.reader.specs.WellFormed.{WellFormed}
 use Rattle.reader.proofs.Below.{some-at, found}
 use Rattle.reader.proofs.Lists.{length-tabulate}
 use Rattle.reader.proofs.Walk.{FirstReaching, leaf-found}
-use Rattle.bounds.specs.Ranges.{Range, Peptides, rangeOf, rangeAt, rangesOf, has, card, count, In}
+use Rattle.bounds.specs.Ranges.{Range, Peptides, rangeOf, rangeAt, rangesOf, has, count, In}
 use Rattle.bounds.specs.Curves.{among, entry, markAt, largestUpTo}
 use Rattle.bounds.specs.Paths.{Distinct}
 use Rattle.bounds.specs.Walks.{holdsLeaf, crowded, MarkedNext}
-use Rattle.bounds.proofs.Members.{test, clash, refuted, both-ways, and-l, and-r, and-both, bit, bit-mono, le-or-lt, place}
+use Rattle.bounds.proofs.Members.{test, clash, refuted, both-ways, and-l, and-r, and-both, bit, le-or-lt, place}
 use Rattle.bounds.proofs.Counting.{none, card-none, adding, count-none, count-adding, count-adding-other}
 use Rattle.bounds.proofs.Nesting.{has-facts, has-holds}
 use Rattle.bounds.proofs.Greedy.{blocked, blocked-facts, blocked-holds, afterStep, among-facts, greedy, greedy-snoc, greedy-new}
 use Rattle.bounds.proofs.Paths.{path-bound, entry-step}
+use Rattle.bounds.proofs.Selecting.{card-most}
 use Rattle.bounds.proofs.Family.{upTo-mono, noRange, ranges-length, range-at, range-in, family-laminar}
 use Rattle.bounds.proofs.Holding.{crowdedAt, holds-facts, from-holds}
 
@@ -114,11 +115,6 @@ module _ {F : Family} (w : WellFormed F) (G : Peptides) (C : List ℕ) (counts :
       (test (holdsLeaf F (leafOf F p) k))
 
 -- a count is at most m
-card-most : (m : ℕ) (X : Peptides) → card m X ≤ m
-unfolding card
-card-most zero X = omega arith
-card-most (suc m) X = omega (arith, card-most m X, bit-mono (X (suc m)) true (λ t. refl))
-
 pub counts-most : (F : Family) (G : Peptides) (C : List ℕ) → WellFormed F → RegionCounts F G C → (k : ℕ) → k < regionCount F → getD C k 0 < 65535
 unfolding count
 counts-most F G C w counts k h = omega (arith, counts k h, card-most (F .peptides) (λ p. has (rangeAt F k) p && G p), w .peptides-most)

@@ -42,15 +42,15 @@ reportCut (cutFound.Repeated p) = record { number = 13; values = p ∷ [] }
 -- The causes of each call, in the order in which they are tried.
 
 -- an output with fewer places than needed
-unfoldable pub short : {A : Type 0} → ℕ → List A → Bool
-short needed out = ltb (length out) needed
+unfoldable pub short : ℕ → ℕ → Bool
+short needed room = ltb room needed
 
 -- taken bytes or totals under K; room is the number of places for them
 unfoldable pub causesWithRoom : List ℕ → List ℕ → ℕ → List Cause
 causesWithRoom file selection room =
     fileCauses file
     ++ (record { number = 14; holds = cause14 (familyOf file .peptides) selection }
-    ∷ record { number = 16; holds = ltb room (regionCount (familyOf file)) }
+    ∷ record { number = 16; holds = short (regionCount (familyOf file)) room }
     ∷ [])
 
 abbrev pub selectionCauses : List ℕ → List ℕ → List ℕ → List Cause
@@ -72,7 +72,7 @@ unfoldable pub curveCauses : List ℕ → List ℕ → List ℕ → List ℕ →
 curveCauses file path values marks =
     fileCauses file
     ++ (pathCauses (familyOf file .peptides) path
-    ++ (record { number = 16; holds = short (length path + 1) values || short (length path) marks } ∷ []))
+    ++ (record { number = 16; holds = short (length path + 1) (length values) || short (length path) (length marks) } ∷ []))
 
 unfoldable pub cutCauses : List ℕ → List ℕ → ℕ → ℕ → List Cause
 cutCauses file path a b =

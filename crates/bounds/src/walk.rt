@@ -1,6 +1,6 @@
 // The greedy walk along a path: a peptide is marked unless a region that holds it already has z marked peptides.
 // In file order the regions that hold a leaf are the last one that does and those around it, so a step costs the way
-// to the leaf, a search among the first leaves and the depth of the nesting.
+// to the leaf, a search among the regions' first leaves and the depth of the nesting.
 use reader::family::Leaf;
 use reader::family::Peptide;
 use reader::family::leaf_of;

@@ -1,24 +1,21 @@
 -- What the program prints for each answer of the check and of the curve.
 use Prim.Native.Nat.{ℕ, zero, suc, _+_, _<_, _≤_}
-use native.Mathlib.Nat.{le-of-suc-le-suc}
 use native.Mathlib.Omega.{arith}
-use native.Mathlib.Numerals.{add-one}
-use mathlib.Core.Bool.{Bool, true, false, not, cond, _||_}
+use mathlib.Core.Bool.{true, false, not, _||_}
 use mathlib.Core.List.{List, [], _∷_, _++_, append-assoc}
 use mathlib.Core.Path.{_≡_, refl, sym, ap, ap₂, _∙_}
 use mathlib.Core.Logic.{⊎-elim}
 use lib.ListN.{length, getD, List·getD-append}
 use lib.Dec.{eqb}
 use borrow.Author.Tests.{ne-eqb, eqb-true, eqb-false, le-ltb, ltb-false, not-true, not-false}
-use Rattle.reader.specs.Lists.{tabulate}
 use Rattle.reader.specs.Family.{Family, familyOf}
 use Rattle.reader.specs.Causes.{Cause, firstCause, headerCauses, familyCauses, fileCauses, Accepted}
 use Rattle.reader.proofs.Bools.{or-neither}
 use Rattle.reader.proofs.Lists.{length-tabulate}
-use Rattle.reader.proofs.First.{Numbered, first-fails, head-clear, join-clear, join-holds, clear-left, clear-right, none-or-some}
+use Rattle.reader.proofs.First.{Numbered, head-clear, join-clear, join-holds, clear-left, clear-right, none-or-some}
 use Rattle.reader.proofs.Judged.{peptides-counted}
 use Rattle.reader.proofs.Accepting.{accepted-header, file-numbered}
-use Rattle.bounds.specs.Curves.{curveValues, curveMarks, entry, markAt, cause11, cause12, cause13}
+use Rattle.bounds.specs.Curves.{curveValues, curveMarks, entry, markAt, cause11}
 use Rattle.bounds.specs.declared.Curved.{Curved}
 use Rattle.bounds.specs.declared.Curved.the-variants as curved
 use Rattle.bounds.specs.Calls.{Answers, reportCurve, declinedCurve, short, pathCauses, curveCauses}
@@ -59,10 +56,10 @@ inputs-numbered s path = omega arith
 
 room :
     (path values marks : List ℕ) → 4097 ≤ length values → 4096 ≤ length marks → length path ≤ 4096
-    → firstCause (record { number = 16; holds = short (length path + 1) values || short (length path) marks } ∷ []) ≡ 0
+    → firstCause (record { number = 16; holds = short (length path + 1) (length values) || short (length path) (length marks) } ∷ []) ≡ 0
 unfolding firstCause short
 room path values marks lv lm few =
-    rw (or-neither (short (length path + 1) values) (short (length path) marks) (le-ltb (length values) (length path + 1) (omega arith)) (le-ltb (length marks) (length path) (omega arith)))
+    rw (or-neither (short (length path + 1) (length values)) (short (length path) (length marks)) (le-ltb (length values) (length path + 1) (omega arith)) (le-ltb (length marks) (length path) (omega arith)))
 
 module _ (s path : List ℕ) where
   pub prints-refusal : (n : ℕ) → n ≡ firstCause (inputCauses s path) → (n ≡ 0 → ⊥) → textOf (firstCause (inputCauses s path)) s path ≡ refusal n
@@ -90,7 +87,7 @@ module _ (s path : List ℕ) where
   pub curve-number : (values marks : List ℕ) → 4097 ≤ length values → 4096 ≤ length marks → firstCause (curveCauses s path values marks) ≡ firstCause (inputCauses s path)
   unfolding curveCauses inputCauses
   curve-number values marks lv lm =
-      let last : Cause = record { number = 16; holds = short (length path + 1) values || short (length path) marks } in
+      let last : Cause = record { number = 16; holds = short (length path + 1) (length values) || short (length path) (length marks) } in
       ap firstCause (sym (append-assoc (fileCauses s) (pathCauses (familyOf s .peptides) path) (last ∷ [])))
       ∙ ⊎-elim
       (λ z. join-clear (inputCauses s path) (last ∷ []) (inputs-numbered s path) z ∙ room path values marks lv lm (short-path z) ∙ sym z)

@@ -9,7 +9,6 @@ ghost use mathlib.Core.Bool.{true};
 ghost use mathlib.Core.List.{List};
 ghost use Prim.Native.Nat.{ℕ, _≤_};
 ghost use lib.ListN.{length};
-ghost use lib.Dec.{eqb};
 ghost use Rattle.reader.specs.Causes.{firstCause};
 ghost use Rattle.bounds.specs.Walks.{inputCauses};
 ghost use Rattle.curve.specs.Appends.{Appends};

@@ -1,4 +1,5 @@
 // The program's text, appended piece by piece to a buffer. Each function returns where the text now ends.
+use reader::family::Peptide;
 ghost use mathlib.Core.List.{[], _∷_};
 ghost use Prim.Native.Nat.{_+_, _*_, _≤_, _<_};
 ghost use lib.ListN.{length};
@@ -58,12 +59,13 @@ fn put_field(out: &mut [u8], at: usize, n: u16, after: u8) -> usize
     put_byte(out, end, after)
 }
 
-fn put_line(out: &mut [u8], at: usize, t: u16, peptide: u16, value: u16, mark: u16) -> usize
+fn put_line(out: &mut [u8], at: usize, t: u16, peptide: Peptide, value: u16, mark: u16) -> usize
     requires { ⌜ at + 24 ≤ length (now out) ⌝ }
-    ensures { λ r. ⌜ Appends (now (out .entry)) at (now (out .exit)) r (lineOf t peptide value mark) ⌝ }
+    ensures { λ r. ⌜ Appends (now (out .entry)) at (now (out .exit)) r (lineOf t (peptide .0) value mark) ⌝ }
 {
+    let p = peptide.0;
     let a = put_field(out, at, t, b' ');
-    let b = put_field(out, a, peptide, b' ');
+    let b = put_field(out, a, p, b' ');
     let c = put_field(out, b, value, b' ');
     put_field(out, c, mark, b'\n')
 }
@@ -76,16 +78,10 @@ fn put_row(out: &mut [u8], at: usize, t: usize, path: &[u16], values: &[u16], ma
     ensures { λ r. ⌜ Appends (now (out .entry)) at (now (out .exit)) r (rowAt (now (path .entry)) (now (values .entry)) (now (marks .entry)) t) ⌝ }
 {
     if t == 0 {
-        put_line(out, at, 0, 0, values[0], 0)
+        put_line(out, at, 0, Peptide(0), values[0], 0)
     } else {
-        put_line(
-            out,
-            at,
-            t as u16,
-            path[t - 1],
-            values[t],
-            marks[t - 1] as u16,
-        )
+        let peptide = Peptide(path[t - 1]);
+        put_line(out, at, t as u16, peptide, values[t], marks[t - 1] as u16)
     }
 }
 

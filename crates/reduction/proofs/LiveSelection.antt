@@ -16,7 +16,7 @@ use Rattle.reader.proofs.First.{join-clear, writes}
 use Rattle.reader.proofs.Accepting.{accepted-header, few-regions, file-numbered}
 use Rattle.bounds.specs.Ranges.{rangesOf}
 use Rattle.bounds.specs.Selections.{cause14, totalsOf}
-use Rattle.bounds.specs.Calls.{causesWithRoom, selectionCauses}
+use Rattle.bounds.specs.Calls.{short, causesWithRoom, selectionCauses}
 use Rattle.bounds.proofs.Selecting.{overOne, right-selection}
 use Rattle.reduction.specs.Reduction.{live}
 use Rattle.reduction.specs.Steps.{Begins, liveBytes, Totalled}
@@ -50,7 +50,7 @@ module _ (F : Family) (L : List ℕ) (begins : Begins (liveBytes F) L) where
 
 module _ (s : List ℕ) (accepted : Accepted s) (old : List ℕ) (room : 8191 ≤ length old) where
   none-holds : firstCause (selectionCauses s (liveBytes (familyOf s)) old) ≡ 0
-  unfolding causesWithRoom firstCause
+  unfolding causesWithRoom short firstCause
   none-holds =
       join-clear (fileCauses s) _ (file-numbered s) accepted
       ∙ rw (live-selection (familyOf s), le-ltb (length old) (regionCount (familyOf s)) (omega (arith, few-regions s (accepted-header s accepted))))

@@ -29,7 +29,7 @@ reportCompared (compared.Refused n) = record { number = n; values = [] }
 
 -- reduction output under the family's length
 unfoldable pub reduceCauses : List ℕ → List ℕ → List Cause
-reduceCauses file out = fileCauses file ++ (record { number = 16; holds = short (length file) out } ∷ [])
+reduceCauses file out = fileCauses file ++ (record { number = 16; holds = short (length file) (length out) } ∷ [])
 
 -- the length and the K of the reduced file, as they stand in it at offsets 14 and 8
 unfoldable pub reducedCounts : List ℕ → List ℕ

@@ -31,13 +31,13 @@ returns : tie.Need-returns
 unfolding reportCurve declinedCurve short
 returns c =
     let a = c .before .before .before .before .before .before .before .before .before .before .args in
-    curve-short _ _ _ _ (admitted (c .before) .0) (or-l (short (length (now (a .path)) + 1) (now (a .values))) _ (lt-ltb (length (now (a .values))) (length (now (a .path)) + 1) (omega (arith, c .if1 .taken))))
+    curve-short _ _ _ _ (admitted (c .before) .0) (or-l (short (length (now (a .path)) + 1) (length (now (a .values)))) _ (lt-ltb (length (now (a .values))) (length (now (a .path)) + 1) (omega (arith, c .if1 .taken))))
 
 returns-2 : tie.Need-returns-2
 unfolding reportCurve declinedCurve short
 returns-2 c =
     let a = c .before .before .before .before .before .before .before .before .before .before .before .args in
-    curve-short _ _ _ _ (admitted (c .before .before) .0) (or-r (short (length (now (a .path)) + 1) (now (a .values))) _ (lt-ltb (length (now (a .marks))) (length (now (a .path))) (c .if2 .taken)))
+    curve-short _ _ _ _ (admitted (c .before .before) .0) (or-r (short (length (now (a .path)) + 1) (length (now (a .values)))) _ (lt-ltb (length (now (a .marks))) (length (now (a .path))) (c .if2 .taken)))
 
 slice-aggregate-write-curve : tie.Need-slice-aggregate-write-curve
 slice-aggregate-write-curve c = sym (c .before .before .before .before .before .before .admit .kept .1 .1 .0)
@@ -64,7 +64,7 @@ returns-3 c =
     let v = length (now (a .values)) in
     let w = length (now (a .marks)) in
     let t = length (now (a .path)) in
-    curve-writes _ _ _ _ _ _ (admitted (c .before .before .before .before .before .before .before .before .before .before) .0) (or-neither (short (t + 1) (now (a .values))) (short t (now (a .marks))) (le-ltb v (t + 1) (omega (arith, c .before .before .before .before .before .before .before .before .before .if1 .left))) (le-ltb w t (c .before .before .before .before .before .before .before .before .if2 .left)))
+    curve-writes _ _ _ _ _ _ (admitted (c .before .before .before .before .before .before .before .before .before .before) .0) (or-neither (short (t + 1) v) (short t w) (le-ltb v (t + 1) (omega (arith, c .before .before .before .before .before .before .before .before .before .if1 .left))) (le-ltb w t (c .before .before .before .before .before .before .before .before .if2 .left)))
     (c .before .before .before .before .write-curve .ensures .0) (c .before .before .before .before .write-curve .ensures .1)
 
 returns-4 : tie.Need-returns-4

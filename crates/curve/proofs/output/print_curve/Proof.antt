@@ -1,8 +1,8 @@
 -- The curve's answer says which text it is: the buffers have room, so it has no cause of its own.
-use Prim.Native.Nat.{ℕ, _≤_}
+use Prim.Native.Nat.{ℕ}
 use native.Mathlib.Omega.{arith}
 use mathlib.Core.List.{List}
-use mathlib.Core.Path.{_≡_, sym, ap, ap₂, _∙_}
+use mathlib.Core.Path.{_≡_, sym, ap₂, _∙_}
 use lib.ListN.{replicate, length-replicate}
 use denote.Ref.{now}
 use Rattle.reader.specs.Family.{familyOf}

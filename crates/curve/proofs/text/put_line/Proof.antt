@@ -22,7 +22,7 @@ put-field-requires-3 c κs =
       c .before .before .before .put-field2 .ensures .ends,
       c .before .before .before .put-field2 .kept .0,
       field-short (c .before .before .before .before .before .before .before .before .before .before .args .t) 32,
-      field-short (c .before .before .before .before .before .before .before .before .before .before .args .peptide) 32,
+      field-short (c .before .before .before .before .before .before .before .before .before .before .args .peptide .0) 32,
     )
 
 put-field-requires-4 : tie.Need-put-field-requires-4
@@ -37,7 +37,7 @@ put-field-requires-4 c κs =
       c .before .before .before .put-field3 .ensures .ends,
       c .before .before .before .put-field3 .kept .0,
       field-short (c .before .before .before .before .before .before .before .before .before .before .before .before .before .before .args .t) 32,
-      field-short (c .before .before .before .before .before .before .before .before .before .before .before .before .before .before .args .peptide) 32,
+      field-short (c .before .before .before .before .before .before .before .before .before .before .before .before .before .before .args .peptide .0) 32,
       field-short (c .before .before .before .before .before .before .before .before .before .before .before .before .before .before .args .value) 32,
     )
 

@@ -13,9 +13,6 @@ shared-slice-read-put-line c = search needs
 put-line-requires : tie.Need-put-line-requires
 put-line-requires c κs = search needs
 
-cast-put-line : tie.Need-cast-put-line
-cast-put-line c = search needs
-
 sub-put-line : tie.Need-sub-put-line
 sub-put-line c = search needs
 
@@ -24,6 +21,9 @@ mul-put-line c = search needs
 
 shared-slice-read-put-line-2 : tie.Need-shared-slice-read-put-line-2
 shared-slice-read-put-line-2 c = search needs
+
+cast-put-line : tie.Need-cast-put-line
+cast-put-line c = search needs
 
 mul-put-line-2 : tie.Need-mul-put-line-2
 mul-put-line-2 c = search needs
@@ -61,10 +61,10 @@ put-row-spec =
     (tie.spec
     shared-slice-read-put-line
     put-line-requires
-    cast-put-line
     sub-put-line
     mul-put-line
     shared-slice-read-put-line-2
+    cast-put-line
     mul-put-line-2
     shared-slice-read-put-line-3
     sub-put-line-2
