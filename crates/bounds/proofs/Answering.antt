@@ -9,12 +9,12 @@ use lib.Dec.{eqb}
 use borrow.Author.Tests.{eq-eqb, ne-eqb}
 use Rattle.reader.specs.Family.{Family, familyOf}
 use Rattle.reader.specs.Causes.{Cause, firstCause, headerCauses, familyCauses, fileCauses}
-use Rattle.reader.specs.Calls.{Report, written}
+use Rattle.reader.specs.Calls.{Report}
 use Rattle.reader.proofs.Bools.{not-passes, not-fails}
 use Rattle.reader.proofs.Lists.{length-tabulate}
 use Rattle.reader.proofs.First.{Numbered, first-holds, first-fails, join-clear, join-holds, answers, declines, writes, leaves-unchanged}
 use Rattle.bounds.specs.Curves.{curveValues, curveMarks, cutOf, entry, markAt, cause15}
-use Rattle.bounds.specs.Calls.{Answers, short, pathCauses, curveCauses, cutCauses}
+use Rattle.bounds.specs.Calls.{Answers, short, pathCauses, curveCauses, cutCauses, CurveValuesWrites, CurveMarksWrites}
 use Rattle.bounds.specs.Walks.{inputCauses}
 use Rattle.bounds.proofs.PathLaws.{RepeatedAt}
 
@@ -76,8 +76,8 @@ module _ (file path values marks : List ℕ) where
   abbrev pub CurveDone : Report → List ℕ → List ℕ → Bool → Type 0
   CurveDone r v w declined =
       Answers (curveCauses file path values marks) path [] r
-      × ((v ≡ written (curveCauses file path values marks) (curveValues (familyOf file) path) values)
-      × ((w ≡ written (curveCauses file path values marks) (curveMarks (familyOf file) path) marks)
+      × (CurveValuesWrites file path values marks v
+      × (CurveMarksWrites file path values marks w
       × (declined ≡ not (eqb (firstCause (curveCauses file path values marks)) 0))))
 
   curve-stops : (r : Report) → Answers (curveCauses file path values marks) path [] r → (firstCause (curveCauses file path values marks) ≡ 0 → ⊥)

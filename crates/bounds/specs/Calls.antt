@@ -1,15 +1,15 @@
 -- What the calls of `bounds` answer and write, defined from their inputs.
 use Prim.Native.Nat.{ℕ, _+_, _≤_}
-use mathlib.Core.Bool.{Bool, true, false, _||_}
+use mathlib.Core.Bool.{Bool, true, false, not, _||_}
 use mathlib.Core.List.{List, [], _∷_, _++_}
 use mathlib.Core.Path.{_≡_}
 use lib.ListN.{length}
-use lib.Dec.{ltb}
+use lib.Dec.{eqb, ltb}
 use Rattle.reader.specs.Family.{familyOf, regionCount}
 use Rattle.reader.specs.Causes.{Cause, firstCause, fileCauses}
-use Rattle.reader.specs.Calls.{Report, answer}
-use Rattle.bounds.specs.Selections.{cause14}
-use Rattle.bounds.specs.Curves.{cause11, cause12, repeated, cause13, cause15}
+use Rattle.reader.specs.Calls.{Report, answer, written}
+use Rattle.bounds.specs.Selections.{boundOf, takenOf, totalsOf, cause14}
+use Rattle.bounds.specs.Curves.{curveValues, curveMarks, cutOf, cause11, cause12, repeated, cause13, cause15}
 use Rattle.bounds.specs.declared.Bounded.{Bounded}
 use Rattle.bounds.specs.declared.Bounded.the-variants as bounded
 use Rattle.bounds.specs.declared.Curved.{Curved}
@@ -84,3 +84,36 @@ pub record Answers (cs : List Cause) (path result : List ℕ) (r : Report) : Typ
   pub number : r .number ≡ firstCause cs
   pub values : (firstCause cs ≡ 13 → ⊥) → r .values ≡ answer cs result .values
   pub place : firstCause cs ≡ 13 → (p : ℕ) × (1 ≤ p) × (p ≤ length path) × (r .values ≡ p ∷ []) × (repeated path p ≡ true)
+
+-- What the calls promise. A list that is lent for an output stands for what it held before the call; new is what the call
+-- leaves in it.
+
+-- the answer r of `bound`, and that of `inside_totals`
+abbrev pub BoundAnswers : List ℕ → List ℕ → List ℕ → Bounded → Type 0
+BoundAnswers file selection out r = reportBound r ≡ answer (selectionCauses file selection out) (boundOf (familyOf file) selection ∷ [])
+
+-- the bytes of `bound`
+abbrev pub TakenWrites : List ℕ → List ℕ → List ℕ → List ℕ → Type 0
+TakenWrites file selection taken new = new ≡ written (selectionCauses file selection taken) (takenOf (familyOf file) selection) taken
+
+-- the totals of `inside_totals`
+abbrev pub TotalsWrites : List ℕ → List ℕ → List ℕ → List ℕ → Type 0
+TotalsWrites file selection out new = new ≡ written (selectionCauses file selection out) (totalsOf (familyOf file) selection) out
+
+-- the answer r of `curve`, its values and its marks
+abbrev pub CurveAnswers : List ℕ → List ℕ → List ℕ → List ℕ → Curved → Type 0
+CurveAnswers file path values marks r = Answers (curveCauses file path values marks) path [] (reportCurve r)
+
+abbrev pub CurveValuesWrites : List ℕ → List ℕ → List ℕ → List ℕ → List ℕ → Type 0
+CurveValuesWrites file path values marks new = new ≡ written (curveCauses file path values marks) (curveValues (familyOf file) path) values
+
+abbrev pub CurveMarksWrites : List ℕ → List ℕ → List ℕ → List ℕ → List ℕ → Type 0
+CurveMarksWrites file path values marks new = new ≡ written (curveCauses file path values marks) (curveMarks (familyOf file) path) marks
+
+-- the answer of `curve` is a refusal exactly if a cause holds
+abbrev pub CurveDeclines : List ℕ → List ℕ → List ℕ → List ℕ → Curved → Type 0
+CurveDeclines file path values marks r = declinedCurve r ≡ not (eqb (firstCause (curveCauses file path values marks)) 0)
+
+-- the answer r of `cut`
+abbrev pub CutAnswers : List ℕ → List ℕ → ℕ → ℕ → CutFound → Type 0
+CutAnswers file path a b r = Answers (cutCauses file path a b) path (cutOf (familyOf file) path a b ∷ []) (reportCut r)

@@ -13,16 +13,7 @@ use selection::selection_cause;
 use taking::write_taken;
 use walk::find_cut;
 use walk::write_curve;
-ghost use mathlib.Core.Path.{_≡_};
-ghost use mathlib.Core.List.{[], _∷_};
-ghost use mathlib.Core.Bool.{not};
-ghost use lib.Dec.{eqb};
-ghost use Rattle.reader.specs.Causes.{firstCause};
-ghost use Rattle.reader.specs.Family.{familyOf};
-ghost use Rattle.reader.specs.Calls.{answer, written};
-ghost use Rattle.bounds.specs.Selections.{boundOf, takenOf, totalsOf};
-ghost use Rattle.bounds.specs.Curves.{curveValues, curveMarks, cutOf};
-ghost use Rattle.bounds.specs.Calls.{Answers, selectionCauses, reportBound, curveCauses, reportCurve, declinedCurve, cutCauses, reportCut};
+ghost use Rattle.bounds.specs.Calls.{BoundAnswers, TakenWrites, TotalsWrites, CurveAnswers, CurveValuesWrites, CurveMarksWrites, CurveDeclines, CutAnswers};
 
 // A bound, or the number of the first cause that holds.
 pub enum Bounded {
@@ -46,8 +37,8 @@ pub enum CutFound {
 
 // The bound of a selection, and for each region, in file order, 1 if it is taken, else 0.
 pub fn bound(file: &[u8], selection: &[u8], taken: &mut [u8]) -> Bounded
-    ensures { λ r. ⌜ reportBound r ≡ answer (selectionCauses (now (file .entry)) (now (selection .entry)) (now (taken .entry))) (boundOf (familyOf (now (file .entry))) (now (selection .entry)) ∷ []) ⌝ }
-    ensures { λ _. ⌜ now (taken .exit) ≡ written (selectionCauses (now (file .entry)) (now (selection .entry)) (now (taken .entry))) (takenOf (familyOf (now (file .entry))) (now (selection .entry))) (now (taken .entry)) ⌝ }
+    ensures { λ r. ⌜ BoundAnswers (now (file .entry)) (now (selection .entry)) (now (taken .entry)) r ⌝ }
+    ensures { λ _. ⌜ TakenWrites (now (file .entry)) (now (selection .entry)) (now (taken .entry)) (now (taken .exit)) ⌝ }
 {
     let cause = selection_cause(file, selection, taken.len());
     if cause != 0 {
@@ -61,8 +52,8 @@ pub fn bound(file: &[u8], selection: &[u8], taken: &mut [u8]) -> Bounded
 
 // The bound of a selection, and for each region, in file order, its inside total.
 pub fn inside_totals(file: &[u8], selection: &[u8], out: &mut [u16]) -> Bounded
-    ensures { λ r. ⌜ reportBound r ≡ answer (selectionCauses (now (file .entry)) (now (selection .entry)) (now (out .entry))) (boundOf (familyOf (now (file .entry))) (now (selection .entry)) ∷ []) ⌝ }
-    ensures { λ _. ⌜ now (out .exit) ≡ written (selectionCauses (now (file .entry)) (now (selection .entry)) (now (out .entry))) (totalsOf (familyOf (now (file .entry))) (now (selection .entry))) (now (out .entry)) ⌝ }
+    ensures { λ r. ⌜ BoundAnswers (now (file .entry)) (now (selection .entry)) (now (out .entry)) r ⌝ }
+    ensures { λ _. ⌜ TotalsWrites (now (file .entry)) (now (selection .entry)) (now (out .entry)) (now (out .exit)) ⌝ }
 {
     let cause = selection_cause(file, selection, out.len());
     if cause != 0 {
@@ -75,10 +66,10 @@ pub fn inside_totals(file: &[u8], selection: &[u8], out: &mut [u16]) -> Bounded
 // The curve along a path and its marks: entry t is the bound of the first t peptides, mark t is 1 where it is one more
 // than the entry before it. They are written from the start of the lent slices; a declined call leaves these unchanged.
 pub fn curve(file: &[u8], path: &[u16], values: &mut [u16], marks: &mut [u8]) -> Curved
-    ensures { λ r. ⌜ Answers (curveCauses (now (file .entry)) (now (path .entry)) (now (values .entry)) (now (marks .entry))) (now (path .entry)) [] (reportCurve r) ⌝ }
-    ensures { λ _. ⌜ now (values .exit) ≡ written (curveCauses (now (file .entry)) (now (path .entry)) (now (values .entry)) (now (marks .entry))) (curveValues (familyOf (now (file .entry))) (now (path .entry))) (now (values .entry)) ⌝ }
-    ensures { λ _. ⌜ now (marks .exit) ≡ written (curveCauses (now (file .entry)) (now (path .entry)) (now (values .entry)) (now (marks .entry))) (curveMarks (familyOf (now (file .entry))) (now (path .entry))) (now (marks .entry)) ⌝ }
-    ensures { λ r. ⌜ declinedCurve r ≡ not (eqb (firstCause (curveCauses (now (file .entry)) (now (path .entry)) (now (values .entry)) (now (marks .entry)))) 0) ⌝ }
+    ensures { λ r. ⌜ CurveAnswers (now (file .entry)) (now (path .entry)) (now (values .entry)) (now (marks .entry)) r ⌝ }
+    ensures { λ _. ⌜ CurveValuesWrites (now (file .entry)) (now (path .entry)) (now (values .entry)) (now (marks .entry)) (now (values .exit)) ⌝ }
+    ensures { λ _. ⌜ CurveMarksWrites (now (file .entry)) (now (path .entry)) (now (values .entry)) (now (marks .entry)) (now (marks .exit)) ⌝ }
+    ensures { λ r. ⌜ CurveDeclines (now (file .entry)) (now (path .entry)) (now (values .entry)) (now (marks .entry)) r ⌝ }
 {
     let mut parents = [0u16; 8191];
     match admit(file, path, &mut parents) {
@@ -99,7 +90,7 @@ pub fn curve(file: &[u8], path: &[u16], values: &mut [u16], marks: &mut [u8]) ->
 
 // The cut at q = a / b: the largest t at which entry t times b is at most a times t.
 pub fn cut(file: &[u8], path: &[u16], a: u16, b: u16) -> CutFound
-    ensures { λ r. ⌜ Answers (cutCauses (now (file .entry)) (now (path .entry)) a b) (now (path .entry)) (cutOf (familyOf (now (file .entry))) (now (path .entry)) a b ∷ []) (reportCut r) ⌝ }
+    ensures { λ r. ⌜ CutAnswers (now (file .entry)) (now (path .entry)) a b r ⌝ }
 {
     let mut parents = [0u16; 8191];
     match admit(file, path, &mut parents) {

@@ -11,12 +11,11 @@ ghost use mathlib.Core.Path.{_≡_};
 ghost use mathlib.Core.List.{[], _∷_};
 ghost use lib.ListN.{take, drop};
 ghost use Rattle.reader.specs.Family.{familyOf};
-ghost use Rattle.reader.specs.Calls.{answer, written, checked, regionPart};
-ghost use Rattle.bounds.specs.Selections.{boundOf, takenOf};
-ghost use Rattle.bounds.specs.Curves.{curveValues, curveMarks, cutOf};
-ghost use Rattle.bounds.specs.Calls.{selectionCauses, curveCauses, cutCauses};
-ghost use Rattle.reduction.specs.Reduction.{reducedFile};
-ghost use Rattle.reduction.specs.Calls.{reduceCauses, reducedCounts, compareCauses, comparison};
+ghost use Rattle.reader.specs.Calls.{answer, checked, regionPart};
+ghost use Rattle.bounds.specs.Selections.{boundOf};
+ghost use Rattle.bounds.specs.Curves.{cutOf};
+ghost use Rattle.bounds.specs.Calls.{selectionCauses, curveCauses, cutCauses, TakenWrites, CurveValuesWrites, CurveMarksWrites};
+ghost use Rattle.reduction.specs.Calls.{reduceCauses, reducedCounts, ReduceWrites, compareCauses, comparison};
 ghost use Rattle.phf.specs.Fields.{checkedFields, partFields, boundedFields, CurveAnswer, CutAnswer, reducedFields, comparedFields};
 
 #[repr(C)]
@@ -117,7 +116,7 @@ pub extern "C" fn phf_regions(file: &[u8]) -> PhfPart
 #[no_mangle]
 pub extern "C" fn phf_bound(file: &[u8], selection: &[u8], taken: &mut [u8]) -> PhfBounded
     ensures { λ r. ⌜ r ≡ boundedFields (answer (selectionCauses (now (file .entry)) (now (selection .entry)) (now (taken .entry))) (boundOf (familyOf (now (file .entry))) (now (selection .entry)) ∷ [])) ⌝ }
-    ensures { λ _. ⌜ now (taken .exit) ≡ written (selectionCauses (now (file .entry)) (now (selection .entry)) (now (taken .entry))) (takenOf (familyOf (now (file .entry))) (now (selection .entry))) (now (taken .entry)) ⌝ }
+    ensures { λ _. ⌜ TakenWrites (now (file .entry)) (now (selection .entry)) (now (taken .entry)) (now (taken .exit)) ⌝ }
 {
     match bounds::bound(file, selection, taken) {
         Bounded::Bound(bound) => PhfBounded { number: 0, bound },
@@ -134,8 +133,8 @@ pub extern "C" fn phf_curve(
     marks: &mut [u8],
 ) -> PhfCurved
     ensures { λ r. ⌜ CurveAnswer (curveCauses (now (file .entry)) (now (path .entry)) (now (values .entry)) (now (marks .entry))) (now (path .entry)) r ⌝ }
-    ensures { λ _. ⌜ now (values .exit) ≡ written (curveCauses (now (file .entry)) (now (path .entry)) (now (values .entry)) (now (marks .entry))) (curveValues (familyOf (now (file .entry))) (now (path .entry))) (now (values .entry)) ⌝ }
-    ensures { λ _. ⌜ now (marks .exit) ≡ written (curveCauses (now (file .entry)) (now (path .entry)) (now (values .entry)) (now (marks .entry))) (curveMarks (familyOf (now (file .entry))) (now (path .entry))) (now (marks .entry)) ⌝ }
+    ensures { λ _. ⌜ CurveValuesWrites (now (file .entry)) (now (path .entry)) (now (values .entry)) (now (marks .entry)) (now (values .exit)) ⌝ }
+    ensures { λ _. ⌜ CurveMarksWrites (now (file .entry)) (now (path .entry)) (now (values .entry)) (now (marks .entry)) (now (marks .exit)) ⌝ }
 {
     match bounds::curve(file, path, values, marks) {
         Curved::Written => PhfCurved {
@@ -175,7 +174,7 @@ pub extern "C" fn phf_cut(file: &[u8], path: &[u16], a: u16, b: u16) -> PhfCutti
 #[no_mangle]
 pub extern "C" fn phf_reduce(file: &[u8], out: &mut [u8]) -> PhfReduced
     ensures { λ r. ⌜ r ≡ reducedFields (answer (reduceCauses (now (file .entry)) (now (out .entry))) (reducedCounts (now (file .entry)))) ⌝ }
-    ensures { λ _. ⌜ now (out .exit) ≡ written (reduceCauses (now (file .entry)) (now (out .entry))) (reducedFile (now (file .entry))) (now (out .entry)) ⌝ }
+    ensures { λ _. ⌜ ReduceWrites (now (file .entry)) (now (out .entry)) (now (out .exit)) ⌝ }
 {
     match reduction::reduce(file, out) {
         ReducedFile::Written { length, regions } => PhfReduced {
