@@ -1,7 +1,7 @@
 -- What the calls with a path answer and write, by the first cause that holds.
 use Prim.Native.Nat.{ℕ, _+_}
 use mathlib.Core.Bool.{Bool, true, false, not, _||_}
-use mathlib.Core.List.{List, [], _∷_, _++_, append-assoc}
+use mathlib.Core.List.{List, [], _∷_, _++_}
 use mathlib.Core.Path.{_≡_, refl, sym, ap, _∙_}
 use native.Mathlib.Omega.{arith}
 use lib.ListN.{length, drop}
@@ -14,8 +14,7 @@ use Rattle.reader.proofs.Bools.{not-passes, not-fails}
 use Rattle.reader.proofs.Lists.{length-tabulate}
 use Rattle.reader.proofs.First.{Numbered, first-holds, first-fails, join-clear, join-holds, answers, declines, writes, leaves-unchanged}
 use Rattle.bounds.specs.Curves.{curveValues, curveMarks, cutOf, entry, markAt, cause15}
-use Rattle.bounds.specs.Calls.{Answers, short, pathCauses, curveCauses, cutCauses, CurveValuesWrites, CurveMarksWrites}
-use Rattle.bounds.specs.Walks.{inputCauses}
+use Rattle.bounds.specs.Calls.{Answers, short, pathCauses, inputCauses, curveCauses, cutCauses, CurveValuesWrites, CurveMarksWrites}
 use Rattle.bounds.proofs.PathLaws.{RepeatedAt}
 
 module _ (cs : List Cause) (path result : List ℕ) where
@@ -50,24 +49,15 @@ unfolding inputCauses fileCauses headerCauses familyCauses pathCauses
 input-numbered file path = omega arith
 
 module _ (file path : List ℕ) (c : Cause) where
-  abbrev joined : List Cause
-  joined = fileCauses file ++ (pathCauses (familyOf file .peptides) path ++ (c ∷ []))
+  input-holds : (firstCause (inputCauses file path) ≡ 0 → ⊥) → firstCause (inputCauses file path ++ (c ∷ [])) ≡ firstCause (inputCauses file path)
+  input-holds h = join-holds (inputCauses file path) (c ∷ []) h
 
-  joined-as : inputCauses file path ++ (c ∷ []) ≡ joined
-  unfolding inputCauses
-  joined-as = append-assoc (fileCauses file) (pathCauses (familyOf file .peptides) path) (c ∷ [])
+  last-holds : firstCause (inputCauses file path) ≡ 0 → c .holds ≡ true → firstCause (inputCauses file path ++ (c ∷ [])) ≡ c .number
+  last-holds h t = join-clear (inputCauses file path) (c ∷ []) (input-numbered file path) h ∙ first-holds c [] t
 
-  joined-input : (firstCause (inputCauses file path) ≡ 0 → ⊥) → firstCause joined ≡ firstCause (inputCauses file path)
-  joined-input h = ap firstCause (sym joined-as) ∙ join-holds (inputCauses file path) (c ∷ []) h
-
-  joined-holds : firstCause (inputCauses file path) ≡ 0 → c .holds ≡ true → firstCause joined ≡ c .number
-  joined-holds h t =
-      ap firstCause (sym joined-as) ∙ join-clear (inputCauses file path) (c ∷ []) (input-numbered file path) h ∙ first-holds c [] t
-
-  joined-none : firstCause (inputCauses file path) ≡ 0 → c .holds ≡ false → firstCause joined ≡ 0
+  none-holds : firstCause (inputCauses file path) ≡ 0 → c .holds ≡ false → firstCause (inputCauses file path ++ (c ∷ [])) ≡ 0
   unfolding firstCause
-  joined-none h f =
-      ap firstCause (sym joined-as) ∙ join-clear (inputCauses file path) (c ∷ []) (input-numbered file path) h ∙ first-fails c [] f
+  none-holds h f = join-clear (inputCauses file path) (c ∷ []) (input-numbered file path) h ∙ first-fails c [] f
 
 -- The curve.
 
@@ -89,13 +79,13 @@ module _ (file path values marks : List ℕ) where
   pub curve-declines : (n : ℕ) → n ≡ firstCause (inputCauses file path) → (n ≡ 0 → ⊥) → (n ≡ 13 → ⊥) → CurveDone (record { number = n; values = [] }) values marks true
   unfolding curveCauses
   curve-declines n e some other =
-      let first = e ∙ sym (joined-input file path _ (λ z. some (e ∙ z))) in
+      let first = e ∙ sym (input-holds file path _ (λ z. some (e ∙ z))) in
       curve-stops _ (declines-with _ path [] n first some other) (λ z. some (first ∙ z))
 
   pub curve-repeats : (p : ℕ) → firstCause (inputCauses file path) ≡ 13 → RepeatedAt path p → CurveDone (record { number = 13; values = p ∷ [] }) values marks true
   unfolding curveCauses
   curve-repeats p e r =
-      let first = joined-input file path _ (λ z. omega arith) ∙ e in
+      let first = input-holds file path _ (λ z. omega arith) ∙ e in
       curve-stops _ (repeats-with _ path [] p first r) (λ z. omega arith)
 
   -- values under T + 1, or marks under T
@@ -103,7 +93,7 @@ module _ (file path values marks : List ℕ) where
       → CurveDone (record { number = 16; values = [] }) values marks true
   unfolding curveCauses
   curve-short e s =
-      let first = sym (joined-holds file path _ e s) in
+      let first = sym (last-holds file path _ e s) in
       curve-stops _ (declines-with _ path [] 16 first (λ z. omega arith) (λ z. omega arith)) (λ z. omega arith)
 
   pub curve-writes : (v w : List ℕ) → firstCause (inputCauses file path) ≡ 0 → (short (length path + 1) (length values) || short (length path) (length marks)) ≡ false
@@ -112,7 +102,7 @@ module _ (file path values marks : List ℕ) where
   unfolding curveCauses curveValues curveMarks
   curve-writes v w e s ev ew =
       let F : Family = familyOf file in
-      let first = joined-none file path _ e s in (
+      let first = none-holds file path _ e s in (
         answers-with _ path [] first,
         (
           ev ∙ rw (writes _ first (curveValues F path) values, length-tabulate (length path + 1) (entry F path)),
@@ -131,17 +121,17 @@ module _ (file path : List ℕ) (a b : ℕ) where
 
   pub cut-declines : (n : ℕ) → n ≡ firstCause (inputCauses file path) → (n ≡ 0 → ⊥) → (n ≡ 13 → ⊥) → CutDone (record { number = n; values = [] })
   unfolding cutCauses
-  cut-declines n e some other = declines-with _ path _ n (e ∙ sym (joined-input file path _ (λ z. some (e ∙ z)))) some other
+  cut-declines n e some other = declines-with _ path _ n (e ∙ sym (input-holds file path _ (λ z. some (e ∙ z)))) some other
 
   pub cut-repeats : (p : ℕ) → firstCause (inputCauses file path) ≡ 13 → RepeatedAt path p → CutDone (record { number = 13; values = p ∷ [] })
   unfolding cutCauses
-  cut-repeats p e r = repeats-with _ path _ p (joined-input file path _ (λ z. omega arith) ∙ e) r
+  cut-repeats p e r = repeats-with _ path _ p (input-holds file path _ (λ z. omega arith) ∙ e) r
 
   pub cut-no-fraction : firstCause (inputCauses file path) ≡ 0 → cause15 a b ≡ true → CutDone (record { number = 15; values = [] })
   unfolding cutCauses
-  cut-no-fraction e h = declines-with _ path _ 15 (sym (joined-holds file path _ e h)) (λ z. omega arith) (λ z. omega arith)
+  cut-no-fraction e h = declines-with _ path _ 15 (sym (last-holds file path _ e h)) (λ z. omega arith) (λ z. omega arith)
 
   pub cut-found : (t : ℕ) → firstCause (inputCauses file path) ≡ 0 → cause15 a b ≡ false → t ≡ cutOf (familyOf file) path a b
       → CutDone (record { number = 0; values = t ∷ [] })
   unfolding cutCauses
-  cut-found t e h q = rw q (answers-with _ path _ (joined-none file path _ e h))
+  cut-found t e h q = rw q (answers-with _ path _ (none-holds file path _ e h))

@@ -20,9 +20,9 @@ use Rattle.reader.proofs.Below.{none-at, none-below, first-at, first-none}
 use Rattle.reader.proofs.First.{head-clear, join-clear, join-holds}
 use Rattle.reader.proofs.Accepting.{well-formed, accepted-header, few-regions, file-numbered}
 use Rattle.bounds.specs.Curves.{cause11, cause12, repeated, cause13}
-use Rattle.bounds.specs.Calls.{pathCauses}
+use Rattle.bounds.specs.Calls.{pathCauses, inputCauses}
 use Rattle.bounds.specs.Paths.{Distinct}
-use Rattle.bounds.specs.Walks.{numberCause, firstRepeat, inputCauses, Walkable}
+use Rattle.bounds.specs.Walks.{numberCause, firstRepeat, Walkable}
 use Rattle.bounds.proofs.Members.{test, clash, or-r, bit}
 
 -- The first number that passes a test.

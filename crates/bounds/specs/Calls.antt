@@ -67,16 +67,18 @@ pathCauses m path =
 abbrev pub IsPath : ℕ → List ℕ → Type 0
 IsPath m path = firstCause (pathCauses m path) ≡ 0
 
+-- the causes of a family and a path
+unfoldable pub inputCauses : List ℕ → List ℕ → List Cause
+inputCauses file path = fileCauses file ++ pathCauses (familyOf file .peptides) path
+
 -- values under T + 1, marks under T
 unfoldable pub curveCauses : List ℕ → List ℕ → List ℕ → List ℕ → List Cause
 curveCauses file path values marks =
-    fileCauses file
-    ++ (pathCauses (familyOf file .peptides) path
-    ++ (record { number = 16; holds = short (length path + 1) (length values) || short (length path) (length marks) } ∷ []))
+    inputCauses file path
+    ++ (record { number = 16; holds = short (length path + 1) (length values) || short (length path) (length marks) } ∷ [])
 
 unfoldable pub cutCauses : List ℕ → List ℕ → ℕ → ℕ → List Cause
-cutCauses file path a b =
-    fileCauses file ++ (pathCauses (familyOf file .peptides) path ++ (record { number = 15; holds = cause15 a b } ∷ []))
+cutCauses file path a b = inputCauses file path ++ (record { number = 15; holds = cause15 a b } ∷ [])
 
 -- The answer of a call with a path is the one that its causes and values give, but for number 13: with it comes one place,
 -- counted from 1, whose peptide stands earlier too; which such place is free.

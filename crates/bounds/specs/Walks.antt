@@ -1,16 +1,16 @@
 -- What the private functions that check a path and walk along it promise each other.
 use Prim.Native.Nat.{ℕ, suc, _+_, _<_, _≤_}
 use mathlib.Core.Bool.{Bool, true, false, cond, _&&_}
-use mathlib.Core.List.{List, _++_}
+use mathlib.Core.List.{List}
 use mathlib.Core.Path.{_≡_}
 use lib.ListN.{length, getD}
 use lib.Dec.{leb}
 use Rattle.reader.specs.Lists.{someBelow, firstBelow}
 use Rattle.reader.specs.Family.{Family, familyOf, regionCount, region, leafOf}
-use Rattle.reader.specs.Causes.{Cause, firstCause, fileCauses}
+use Rattle.reader.specs.Causes.{firstCause}
 use Rattle.reader.specs.WellFormed.{WellFormed, Nested}
 use Rattle.bounds.specs.Curves.{cause11, cause12, repeated}
-use Rattle.bounds.specs.Calls.{pathCauses}
+use Rattle.bounds.specs.Calls.{inputCauses}
 use Rattle.bounds.specs.Paths.{Distinct}
 use Rattle.bounds.specs.declared.path.Admitted.{Admitted}
 use Rattle.bounds.specs.declared.path.Admitted.the-variants.{Yes, Refused, Repeated}
@@ -24,10 +24,6 @@ numberCause m path = cond (cause11 m path) 11 (cond (cause12 m path) 12 0)
 -- the first place, counted from 1, whose peptide stands earlier too; 0 if there is none
 unfoldable pub firstRepeat : List ℕ → ℕ
 firstRepeat path = firstBelow (length path) (λ i. repeated path (i + 1))
-
--- the causes of a family and a path
-unfoldable pub inputCauses : List ℕ → List ℕ → List Cause
-inputCauses file path = fileCauses file ++ pathCauses (familyOf file .peptides) path
 
 -- what a walk goes by: a well-formed family, its parents, and a path of different peptides
 pub record Walkable (F : Family) (path P : List ℕ) : Type 0 where

@@ -2,7 +2,7 @@
 use Prim.Native.Nat.{ℕ, zero, suc, _+_, _<_, _≤_}
 use native.Mathlib.Omega.{arith}
 use mathlib.Core.Bool.{true, false, not, _||_}
-use mathlib.Core.List.{List, [], _∷_, _++_, append-assoc}
+use mathlib.Core.List.{List, [], _∷_, _++_}
 use mathlib.Core.Path.{_≡_, refl, sym, ap, ap₂, _∙_}
 use mathlib.Core.Logic.{⊎-elim}
 use lib.ListN.{length, getD, List·getD-append}
@@ -12,14 +12,13 @@ use Rattle.reader.specs.Family.{Family, familyOf}
 use Rattle.reader.specs.Causes.{Cause, firstCause, headerCauses, familyCauses, fileCauses, Accepted}
 use Rattle.reader.proofs.Bools.{or-neither}
 use Rattle.reader.proofs.Lists.{length-tabulate}
-use Rattle.reader.proofs.First.{Numbered, head-clear, join-clear, join-holds, clear-left, clear-right, none-or-some}
+use Rattle.reader.proofs.First.{Numbered, first-fails, head-clear, join-clear, join-holds, clear-left, clear-right, none-or-some}
 use Rattle.reader.proofs.Judged.{peptides-counted}
 use Rattle.reader.proofs.Accepting.{accepted-header, file-numbered}
 use Rattle.bounds.specs.Curves.{curveValues, curveMarks, entry, markAt, cause11}
 use Rattle.bounds.specs.declared.Curved.{Curved}
 use Rattle.bounds.specs.declared.Curved.the-variants as curved
-use Rattle.bounds.specs.Calls.{Answers, reportCurve, declinedCurve, short, pathCauses, curveCauses}
-use Rattle.bounds.specs.Walks.{inputCauses}
+use Rattle.bounds.specs.Calls.{Answers, reportCurve, declinedCurve, short, pathCauses, inputCauses, curveCauses}
 use Rattle.curve.specs.Text.{heading, rows, rowAt, lineOf, tableOf, refusal}
 use Rattle.curve.specs.Program.{pathOf, odd, programCauses, textOf, output}
 
@@ -35,9 +34,17 @@ module _ (s bytes : List ℕ) where
   odd-path a o = join-clear (fileCauses s) _ (file-numbered s) a ∙ rw o
 
   -- with an even byte count the program's causes are those of the family and the path
+  even-number : odd bytes ≡ false → firstCause (programCauses s bytes) ≡ firstCause (inputCauses s (pathOf bytes))
+  unfolding programCauses inputCauses
+  even-number o =
+      ⊎-elim
+      (λ a. join-clear (fileCauses s) _ (file-numbered s) a ∙ first-fails _ _ o ∙ sym (join-clear (fileCauses s) _ (file-numbered s) a))
+      (λ r. join-holds (fileCauses s) _ r ∙ sym (join-holds (fileCauses s) _ r))
+      (none-or-some (fileCauses s))
+
   pub even-path : odd bytes ≡ false → output s bytes ≡ textOf (firstCause (inputCauses s (pathOf bytes))) s (pathOf bytes)
-  unfolding output programCauses inputCauses pathCauses
-  even-path o = rw o
+  unfolding output
+  even-path o = ap (λ (n : ℕ). textOf n s (pathOf bytes)) (even-number o)
 
   pub odd-text : (n : ℕ) → odd bytes ≡ true → n ≡ firstCause (programCauses s bytes) → (n ≡ 0 → ⊥) → output s bytes ≡ refusal n
   unfolding output textOf
@@ -85,11 +92,10 @@ module _ (s path : List ℕ) where
 
   -- the values and the marks have room, so the curve has no cause of its own
   pub curve-number : (values marks : List ℕ) → 4097 ≤ length values → 4096 ≤ length marks → firstCause (curveCauses s path values marks) ≡ firstCause (inputCauses s path)
-  unfolding curveCauses inputCauses
+  unfolding curveCauses
   curve-number values marks lv lm =
       let last : Cause = record { number = 16; holds = short (length path + 1) (length values) || short (length path) (length marks) } in
-      ap firstCause (sym (append-assoc (fileCauses s) (pathCauses (familyOf s .peptides) path) (last ∷ [])))
-      ∙ ⊎-elim
+      ⊎-elim
       (λ z. join-clear (inputCauses s path) (last ∷ []) (inputs-numbered s path) z ∙ room path values marks lv lm (short-path z) ∙ sym z)
       (λ r. join-holds (inputCauses s path) (last ∷ []) r)
       (none-or-some (inputCauses s path))

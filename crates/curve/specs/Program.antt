@@ -1,15 +1,16 @@
 -- The program's output, defined from the bytes of the two files.
 use Prim.Native.Nat.{ℕ, _*_, _/_, _%_}
-use mathlib.Core.Bool.{Bool, cond, _||_}
+use mathlib.Core.Bool.{Bool, cond}
 use mathlib.Core.Path.{_≡_}
-use mathlib.Core.List.{List, [], _∷_, _++_}
+use mathlib.Core.List.{List, _∷_, _++_}
 use lib.ListN.{length, take}
 use lib.Dec.{eqb}
 use Rattle.reader.specs.Lists.{tabulate}
 use Rattle.reader.specs.Bytes.{numberAt}
 use Rattle.reader.specs.Family.{Family, familyOf}
 use Rattle.reader.specs.Causes.{Cause, firstCause, fileCauses}
-use Rattle.bounds.specs.Curves.{curveValues, curveMarks, cause11, cause12, cause13}
+use Rattle.bounds.specs.Curves.{curveValues, curveMarks}
+use Rattle.bounds.specs.Calls.{pathCauses}
 use Rattle.curve.specs.Text.{tableOf, refusal}
 
 -- the numbers of the path file, 2 bytes each, low byte first
@@ -22,13 +23,7 @@ odd bytes = eqb (length bytes % 2) 1
 -- an odd byte count is cause 11 too
 unfoldable pub programCauses : List ℕ → List ℕ → List Cause
 programCauses family bytes =
-    let m : ℕ = familyOf family .peptides in
-    let path : List ℕ = pathOf bytes in
-    fileCauses family
-    ++ (record { number = 11; holds = odd bytes || cause11 m path }
-    ∷ record { number = 12; holds = cause12 m path }
-    ∷ record { number = 13; holds = cause13 path }
-    ∷ [])
+    fileCauses family ++ (record { number = 11; holds = odd bytes } ∷ pathCauses (familyOf family .peptides) (pathOf bytes))
 
 -- the table of a path, or one line with the number
 unfoldable pub textOf : ℕ → List ℕ → List ℕ → List ℕ

@@ -10,7 +10,7 @@ ghost use mathlib.Core.List.{List};
 ghost use Prim.Native.Nat.{ℕ, _≤_};
 ghost use lib.ListN.{length};
 ghost use Rattle.reader.specs.Causes.{firstCause};
-ghost use Rattle.bounds.specs.Walks.{inputCauses};
+ghost use Rattle.bounds.specs.Calls.{inputCauses};
 ghost use Rattle.curve.specs.Appends.{Appends};
 ghost use Rattle.curve.specs.Program.{programCauses, odd, textOf, output};
 

@@ -9,9 +9,8 @@ use Rattle.reader.specs.Family.{familyOf}
 use Rattle.reader.specs.Causes.{firstCause}
 use Rattle.reader.proofs.First.{writes}
 use Rattle.bounds.specs.Curves.{curveValues, curveMarks}
-use Rattle.bounds.specs.Calls.{curveCauses}
+use Rattle.bounds.specs.Calls.{inputCauses, curveCauses}
 use Rattle.curve.specs.Text.{tableOf}
-use Rattle.bounds.specs.Walks.{inputCauses}
 use Rattle.curve.proofs.Printing.{curve-number, short-path, prints-refusal, prints-table, table-same, values-room, marks-room, written-clear, refused-some, refused-number, repeated-number}
 use borrow.Author.Needs.{needs}
 use Rattle.curve.proofs.output.print_curve.Statement.{statement}
