@@ -1,4 +1,4 @@
--- The walk along a path: the counts of the regions, the marks and the entries after each step.
+-- The walk along a path: what the regions can take, the marks and the entries after each step.
 use Prim.Native.Nat.{ℕ, zero, suc, _+_, _-_, _*_, _<_, _≤_}
 use mathlib.Core.Bool.{Bool, true, false, not, cond, _&&_}
 use mathlib.Core.List.{List, [], _∷_, _++_}
@@ -9,10 +9,10 @@ use native.Mathlib.Numerals.{add-one}
 use native.Mathlib.Omega.{arith}
 use lib.ListN.{length, getD, take, drop, set}
 use lib.Seq.{take-suc, getD-take, drop-cons, set-at, append-snoc, length-take-le, drop-set-lt}
-use lib.Dec.{leb}
-use borrow.Author.Tests.{leb-true, le-leb, eq-eqb, ne-eqb}
+use lib.Dec.{leb, eqb}
+use borrow.Author.Tests.{eqb-true, eq-eqb, ne-eqb}
 use Rattle.reader.specs.Lists.{tabulate}
-use Rattle.reader.specs.Family.{Family, regionCount, region, leafOf}
+use Rattle.reader.specs.Family.{Family, leaves, regionCount, region, leafOf}
 use Rattle.reader.specs.WellFormed.{WellFormed}
 use Rattle.reader.proofs.Below.{some-at, found}
 use Rattle.reader.proofs.Lists.{length-tabulate}
@@ -26,7 +26,6 @@ use Rattle.bounds.proofs.Counting.{none, card-none, adding, count-none,
 use Rattle.bounds.proofs.Nesting.{has-facts, has-holds}
 use Rattle.bounds.proofs.Greedy.{blocked, blocked-facts, blocked-holds, afterStep, among-facts, greedy, greedy-snoc, greedy-new}
 use Rattle.bounds.proofs.Paths.{path-bound, entry-step}
-use Rattle.bounds.proofs.Selecting.{card-most}
 use Rattle.bounds.proofs.Family.{upTo-mono, noRange, ranges-length, range-at, range-in, family-laminar}
 use Rattle.bounds.proofs.Holding.{crowdedAt, holds-facts, from-holds}
 
@@ -68,56 +67,51 @@ module _ {F : Family} (w : WellFormed F) where
             upto = omega (arith, leaf .reaches, upTo-mono F (leafOf F p) (region F k .last) (f .1));
           })
 
--- The counts of the regions.
+-- The marks that each region can take.
 
--- the list has the count of G in each region
-abbrev pub RegionCounts : Family → Peptides → List ℕ → Type 0
-RegionCounts F G C = (k : ℕ) → k < regionCount F → getD C k 0 ≡ count (F .peptides) G (rangeAt F k)
+-- the list has for each region its z less the count of G in it
+abbrev pub SpareFor : Family → Peptides → List ℕ → Type 0
+SpareFor F G S = (k : ℕ) → k < regionCount F → getD S k 0 ≡ region F k .z - count (F .peptides) G (rangeAt F k)
 
-module _ {F : Family} (w : WellFormed F) (G : Peptides) (C : List ℕ) (counts : RegionCounts F G C) (p : ℕ) (some : 1 ≤ p) (most : p ≤ F .peptides) where
+module _ {F : Family} (w : WellFormed F) (G : Peptides) (S : List ℕ) (spare : SpareFor F G S) (p : ℕ) (some : 1 ≤ p) (most : p ≤ F .peptides) where
   -- a peptide may not be marked exactly if a region that holds its leaf is crowded
-  pub crowded-blocked : crowded F C (leafOf F p) ≡ blocked (F .peptides) (rangesOf F) G p
+  pub crowded-blocked : crowded F S (leafOf F p) ≡ blocked (F .peptides) (rangesOf F) G p
   unfolding crowded rangeOf
-  crowded-blocked = both-ways (crowded F C (leafOf F p)) (blocked (F .peptides) (rangesOf F) G p) there back
+  crowded-blocked = both-ways (crowded F S (leafOf F p)) (blocked (F .peptides) (rangesOf F) G p) there back
     where
-      there : crowded F C (leafOf F p) ≡ true → blocked (F .peptides) (rangesOf F) G p ≡ true
+      there : crowded F S (leafOf F p) ≡ true → blocked (F .peptides) (rangesOf F) G p ≡ true
       there e =
-          let f = found (crowdedAt F C (leafOf F p)) (regionCount F) e in
+          let f = found (crowdedAt F S (leafOf F p)) (regionCount F) e in
           let k : ℕ = f .0 in
-          let holds = and-l (holdsLeaf F (leafOf F p) k) (leb (region F k .z) (getD C k 0)) (f .2) in
-          let filled = leb-true (region F k .z) (getD C k 0) (and-r (holdsLeaf F (leafOf F p) k) (leb (region F k .z) (getD C k 0)) (f .2)) in
+          let holds = and-l (holdsLeaf F (leafOf F p) k) (eqb (getD S k 0) 0) (f .2) in
+          let none = eqb-true (getD S k 0) 0 (and-r (holdsLeaf F (leafOf F p) k) (eqb (getD S k 0) 0) (f .2)) in
           blocked-holds (F .peptides) (rangesOf F) G p
-          (record { by = rangeAt F k; member = range-in F k (f .1); holds = has-leaf w p k some most (f .1) ∙ holds; filled = omega (arith, counts k (f .1)) })
+          (record { by = rangeAt F k; member = range-in F k (f .1); holds = has-leaf w p k some most (f .1) ∙ holds; filled = omega (arith, none, spare k (f .1)) })
 
-      back : blocked (F .peptides) (rangesOf F) G p ≡ true → crowded F C (leafOf F p) ≡ true
+      back : blocked (F .peptides) (rangesOf F) G p ≡ true → crowded F S (leafOf F p) ≡ true
       back e =
           let s = blocked-facts (F .peptides) (rangesOf F) G p e in
           let n = of-region F (s .by) (s .member) in
           let k : ℕ = n .at in
           let holds : has (rangeAt F k) p ≡ true = rw (n .is) at (s .holds) in
           let filled : region F k .z ≤ count (F .peptides) G (rangeAt F k) = rw (n .is) at (s .filled) in
-          some-at (crowdedAt F C (leafOf F p)) (regionCount F) k (n .few)
-          (and-both (holdsLeaf F (leafOf F p) k) (leb (region F k .z) (getD C k 0)) (sym (has-leaf w p k some most (n .few)) ∙ holds)
-          (le-leb (region F k .z) (getD C k 0) (omega (arith, counts k (n .few)))))
+          some-at (crowdedAt F S (leafOf F p)) (regionCount F) k (n .few)
+          (and-both (holdsLeaf F (leafOf F p) k) (eqb (getD S k 0) 0) (sym (has-leaf w p k some most (n .few)) ∙ holds)
+          (eq-eqb (getD S k 0) 0 (omega (arith, filled, spare k (n .few)))))
 
-  -- the counts after the step
-  pub counts-stay : (D : List ℕ) → MarkedNext F C p D 0 → RegionCounts F G D
-  counts-stay D s k h = s .counted k h ∙ (⊎-elim (λ t. rw t (omega (arith, counts k h))) (λ f. rw f (omega (arith, counts k h))) (test (holdsLeaf F (leafOf F p) k)))
+  -- what the regions can take after the step
+  pub spare-stays : (D : List ℕ) → MarkedNext F S p D 0 → SpareFor F G D
+  spare-stays D s k h = s .less k h ∙ (⊎-elim (λ t. rw t (omega (arith, spare k h))) (λ f. rw f (omega (arith, spare k h))) (test (holdsLeaf F (leafOf F p) k)))
 
-  pub counts-more : (D : List ℕ) → G p ≡ false → MarkedNext F C p D 1 → RegionCounts F (adding p G) D
-  counts-more D fresh s k h =
-      let old = counts k h in
+  pub spare-less : (D : List ℕ) → G p ≡ false → MarkedNext F S p D 1 → SpareFor F (adding p G) D
+  spare-less D fresh s k h =
+      let old = spare k h in
       let leaf = has-leaf w p k some most h in
-      s .counted k h
+      s .less k h
       ∙ ⊎-elim
       (λ t. rw t (omega (arith, count-adding (F .peptides) p G (rangeAt F k) some most fresh (leaf ∙ t))))
       (λ f. rw f (omega (arith, count-adding-other (F .peptides) p G (rangeAt F k) (leaf ∙ f))))
       (test (holdsLeaf F (leafOf F p) k))
-
--- a count is at most m
-pub counts-most : (F : Family) (G : Peptides) (C : List ℕ) → WellFormed F → RegionCounts F G C → (k : ℕ) → k < regionCount F → getD C k 0 < 65535
-unfolding count
-counts-most F G C w counts k h = omega (arith, counts k h, card-most (F .peptides) (λ p. has (rangeAt F k) p && G p), w .peptides-most)
 
 -- A path of different peptides.
 
@@ -178,30 +172,30 @@ module _ {F : Family} {path : List ℕ} (well : WellFormed F) (is : Distinct (F 
   unfolding entry greedy
   entry-start = sym (path-bound (family-laminar well) []) ∙ card-none (F .peptides) none (λ p l u. refl)
 
-  -- One step: the mark and the entry are right, and the counts are those of the set after it.
+  -- One step: the mark and the entry are right, and so is what the regions can take after it.
   pub record RightStep (t : ℕ) (D : List ℕ) (marked : ℕ) : Type 0 where
     pub small : marked ≤ 1
     pub entered : entry F path (t + 1) ≡ entry F path t + marked
     pub right : marked ≡ markAt F path (t + 1)
-    pub counts : RegionCounts F (markedSet (t + 1)) D
+    pub spare : SpareFor F (markedSet (t + 1)) D
 
-  module _ (t : ℕ) (h : t < length path) (C D : List ℕ) (marked : ℕ) (counts : RegionCounts F (markedSet t) C) (s : MarkedNext F C (getD path t 0) D marked) where
+  module _ (t : ℕ) (h : t < length path) (S D : List ℕ) (marked : ℕ) (spare : SpareFor F (markedSet t) S) (s : MarkedNext F S (getD path t 0) D marked) where
     marked-bit : marked ≡ bit (not (stops t))
-    marked-bit = s .marked ∙ rw (crowded-blocked well (markedSet t) C counts (getD path t 0) (is .some t h) (is .most t h)) (flip (stops t))
+    marked-bit = s .marked ∙ rw (crowded-blocked well (markedSet t) S spare (getD path t 0) (is .some t h) (is .most t h)) (flip (stops t))
       where
         flip : (b : Bool) → cond b 0 1 ≡ bit (not b)
         flip true = refl
         flip false = refl
 
-    counts-next : RegionCounts F (markedSet (suc t)) D
-    counts-next =
+    spare-next : SpareFor F (markedSet (suc t)) D
+    spare-next =
         ⊎-elim
         (λ e.
         rw (marked-stays t h e)
-        (counts-stay well (markedSet t) C counts (getD path t 0) (is .some t h) (is .most t h) D (subst (MarkedNext F C (getD path t 0) D) (marked-bit ∙ rw e) s)))
+        (spare-stays well (markedSet t) S spare (getD path t 0) (is .some t h) (is .most t h) D (subst (MarkedNext F S (getD path t 0) D) (marked-bit ∙ rw e) s)))
         (λ e.
         rw (marked-grows t h e)
-        (counts-more well (markedSet t) C counts (getD path t 0) (is .some t h) (is .most t h) D (not-marked t h) (subst (MarkedNext F C (getD path t 0) D) (marked-bit ∙ rw e) s)))
+        (spare-less well (markedSet t) S spare (getD path t 0) (is .some t h) (is .most t h) D (not-marked t h) (subst (MarkedNext F S (getD path t 0) D) (marked-bit ∙ rw e) s)))
         (test (stops t))
 
     pub next : RightStep t D marked
@@ -210,13 +204,17 @@ module _ {F : Family} {path : List ℕ} (well : WellFormed F) (is : Distinct (F 
           small = ⊎-elim (λ e. omega (arith, marked-bit ∙ ap (λ b. bit (not b)) e)) (λ e. omega (arith, marked-bit ∙ ap (λ b. bit (not b)) e)) (test (stops t));
           entered = rw add-one (omega (arith, entry-next t h, marked-bit));
           right = marked-bit ∙ sym (mark-is t h);
-          counts = rw add-one counts-next;
+          spare = rw add-one spare-next;
         }
 
   -- no peptide is marked at the start
-  pub counts-start : (C : List ℕ) → ((k : ℕ) → k < regionCount F → getD C k 0 ≡ 0) → RegionCounts F (markedSet 0) C
+  pub spare-start : (S : List ℕ) → ((k : ℕ) → k < regionCount F → getD S k 0 ≡ region F k .z) → SpareFor F (markedSet 0) S
   unfolding greedy
-  counts-start C zeros k h = zeros k h ∙ sym (count-none (F .peptides) (rangeAt F k))
+  spare-start S whole k h = omega (arith, whole k h, count-none (F .peptides) (rangeAt F k))
+
+  -- the leaf of a place's peptide is one of the leaves
+  pub leaf-few : (t : ℕ) → t < length path → leafOf F (getD path t 0) ≤ leaves F
+  leaf-few t h = leaf-found F (getD path t 0) (is .some t h) (omega (arith, is .most t h, well .lengths-sum)) .leaf
 
 -- Lists that are written from the start.
 

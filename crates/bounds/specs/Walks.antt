@@ -1,10 +1,10 @@
 -- What the private functions that check a path and walk along it promise each other.
-use Prim.Native.Nat.{ℕ, suc, _+_, _<_, _≤_}
+use Prim.Native.Nat.{ℕ, suc, _+_, _-_, _<_, _≤_}
 use mathlib.Core.Bool.{Bool, true, false, cond, _&&_}
 use mathlib.Core.List.{List}
 use mathlib.Core.Path.{_≡_}
 use lib.ListN.{length, getD}
-use lib.Dec.{leb}
+use lib.Dec.{leb, eqb}
 use Rattle.reader.specs.Lists.{someBelow, firstBelow}
 use Rattle.reader.specs.Family.{Family, familyOf, regionCount, region, leafOf}
 use Rattle.reader.specs.Causes.{firstCause}
@@ -40,32 +40,53 @@ Admission file path P (Repeated p) = (firstCause (inputCauses file path) ≡ 13)
 
 -- The regions that hold a leaf.
 
-unfoldable pub holdsLeaf : Family → ℕ → ℕ → Bool
-holdsLeaf F leaf k = leb (region F k .first) leaf && leb leaf (region F k .last)
+-- a number is one of those from the first to the last
+unfoldable pub within : ℕ → ℕ → ℕ → Bool
+within first last n = leb first n && leb n last
 
--- c is how many regions begin at the leaf or before it: in file order they are the first c
-pub record HowManyBegun (F : Family) (leaf c : ℕ) : Type 0 where
-  pub most : c ≤ regionCount F
-  pub begins : (i : ℕ) → i < c → region F i .first ≤ leaf
-  pub later : (i : ℕ) → c ≤ i → i < regionCount F → leaf < region F i .first
+abbrev pub holdsLeaf : Family → ℕ → ℕ → Bool
+holdsLeaf F leaf k = within (region F k .first) (region F k .last) leaf
 
--- c is the number, counted from 1, of the last region that holds the leaf, or 0 where none does
-pub record LastHolding (F : Family) (leaf c : ℕ) : Type 0 where
-  pub most : c ≤ regionCount F
+-- c is the number, counted from 1, of the last of the first n regions that holds the leaf, or 0 where none does
+pub record LastAmong (F : Family) (n leaf c : ℕ) : Type 0 where
+  pub most : c ≤ n
   pub holds : (j : ℕ) → c ≡ suc j → holdsLeaf F leaf j ≡ true
-  pub last : (i : ℕ) → c ≤ i → i < regionCount F → holdsLeaf F leaf i ≡ false
+  pub last : (i : ℕ) → c ≤ i → i < n → holdsLeaf F leaf i ≡ false
 
--- some region that holds the leaf has no room left: its count is its z or more
+abbrev pub LastHolding : Family → ℕ → ℕ → Type 0
+LastHolding F leaf c = LastAmong F (regionCount F) leaf c
+
+-- The list has at each leaf the number of the last region that holds it, which is the innermost one.
+abbrev pub Innermost : Family → List ℕ → Type 0
+Innermost F T = (leaf : ℕ) → LastHolding F leaf (getD T leaf 0)
+
+-- the list D is T with a number written from a first place to a last one
+pub record Painted (T : List ℕ) (first last number : ℕ) (D : List ℕ) : Type 0 where
+  pub same : length D ≡ length T
+  pub written : (j : ℕ) → getD D j 0 ≡ cond (within first last j) number (getD T j 0)
+
+-- The marks that each region can still take: its z less the marked peptides that it has.
+
+-- some region that holds the leaf can take no more marks
 unfoldable pub crowded : Family → List ℕ → ℕ → Bool
-crowded F C leaf = someBelow (regionCount F) (λ k. holdsLeaf F leaf k && leb (region F k .z) (getD C k 0))
+crowded F S leaf = someBelow (regionCount F) (λ k. holdsLeaf F leaf k && eqb (getD S k 0) 0)
 
--- the counts of the regions that hold the leaf are one more
-pub record CountedOne (F : Family) (C : List ℕ) (leaf : ℕ) (D : List ℕ) : Type 0 where
-  pub same : length D ≡ length C
-  pub counted : (k : ℕ) → k < regionCount F → getD D k 0 ≡ getD C k 0 + cond (holdsLeaf F leaf k) 1 0
+-- c is the number of the last region that holds some leaf, in some family with these parents, and no region that holds it is crowded
+pub record Uncrowded (P S : List ℕ) (c : ℕ) : Type 0 where
+  pub family : Family
+  pub nested : Nested family P
+  pub room : regionCount family ≤ length S
+  pub leaf : ℕ
+  pub last : LastHolding family leaf c
+  pub free : crowded family S leaf ≡ false
 
--- One step of the walk: the mark is 1 unless a region that holds the peptide is crowded, and the counts go up by it.
-pub record MarkedNext (F : Family) (C : List ℕ) (p : ℕ) (D : List ℕ) (mark : ℕ) : Type 0 where
-  pub same : length D ≡ length C
-  pub marked : mark ≡ cond (crowded F C (leafOf F p)) 0 1
-  pub counted : (k : ℕ) → k < regionCount F → getD D k 0 ≡ getD C k 0 + cond (holdsLeaf F (leafOf F p) k) mark 0
+-- the regions that hold the leaf can take one mark less
+pub record OneLess (F : Family) (S : List ℕ) (leaf : ℕ) (D : List ℕ) : Type 0 where
+  pub same : length D ≡ length S
+  pub less : (k : ℕ) → k < regionCount F → getD D k 0 ≡ getD S k 0 - cond (holdsLeaf F leaf k) 1 0
+
+-- One step of the walk: the mark is 1 unless a region that holds the peptide is crowded, and is taken from what these can take.
+pub record MarkedNext (F : Family) (S : List ℕ) (p : ℕ) (D : List ℕ) (mark : ℕ) : Type 0 where
+  pub same : length D ≡ length S
+  pub marked : mark ≡ cond (crowded F S (leafOf F p)) 0 1
+  pub less : (k : ℕ) → k < regionCount F → getD D k 0 ≡ getD S k 0 - cond (holdsLeaf F (leafOf F p) k) mark 0

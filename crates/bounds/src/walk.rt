@@ -1,6 +1,6 @@
 // The greedy walk along a path: a peptide is marked unless a region that holds it already has z marked peptides.
-// In file order the regions that hold a leaf are the last one that does and those around it, so a step costs the way
-// to the leaf, a search among the regions' first leaves and the depth of the nesting.
+// The regions that hold a leaf are the innermost one and those around it, so a step costs the way to the leaf and the depth
+// of the nesting.
 use reader::family::Leaf;
 use reader::family::Peptide;
 use reader::family::leaf_of;
@@ -12,95 +12,109 @@ ghost use mathlib.Core.List.{_++_};
 ghost use Prim.Native.Nat.{ℕ, _+_, _*_, _<_, _≤_};
 ghost use lib.ListN.{length, getD, drop};
 ghost use lib.Dec.{leb};
-ghost use Rattle.reader.specs.Family.{Family, familyOf, regionCount};
+ghost use Rattle.reader.specs.Family.{Family, familyOf, leaves, leafOf, regionCount, region};
 ghost use Rattle.reader.specs.WellFormed.{Ordered, Nested};
 ghost use Rattle.bounds.specs.Curves.{curveValues, curveMarks, cutOf};
-ghost use Rattle.bounds.specs.Walks.{Walkable, HowManyBegun, LastHolding, crowded, CountedOne, MarkedNext};
+ghost use Rattle.bounds.specs.Walks.{Walkable, Painted, Innermost, LastHolding, crowded, Uncrowded, OneLess, MarkedNext};
 
-// How many regions begin at the leaf or before it.
-fn begun(file: &[u8], leaf: Leaf) -> u16
+// Writes a region's number at each of its leaves.
+fn paint(innermost: &mut [u16], first: Leaf, last: Leaf, number: u16)
+    requires { ⌜ (first .0 ≤ last .0) × (last .0 < length (now innermost)) ⌝ }
+    ensures { λ _. ⌜ Painted (now (innermost .entry)) (first .0) (last .0) number (now (innermost .exit)) ⌝ }
+{
+    let end = last.0 as usize;
+    let mut j = first.0 as usize;
+    while j <= end {
+        innermost[j] = number;
+        j += 1;
+    }
+}
+
+// Writes at each leaf the number of the innermost region that holds it. In file order what is inside a region comes after it,
+// so the last number written at a leaf stays. A leaf is written once for each region around it, 64 times at most.
+fn fill_innermost(file: &[u8], innermost: &mut [u16])
     requires { ⌜ Ordered (familyOf (now file)) ⌝ }
-    ensures { λ r. ⌜ HowManyBegun (familyOf (now (file .entry))) (leaf .0) r ⌝ }
+    requires { ⌜ leaves (familyOf (now file)) < length (now innermost) ⌝ }
+    requires { ⌜ ((leaf : ℕ) → getD (now innermost) leaf 0 ≡ 0) ⌝ }
+    ensures { λ _. ⌜ length (now (innermost .exit)) ≡ length (now (innermost .entry)) ⌝ }
+    ensures { λ _. ⌜ Innermost (familyOf (now (file .entry))) (now (innermost .exit)) ⌝ }
 {
-    let place = leaf.0;
-    let mut low = 0;
-    let mut high = region_count(file);
-    while low < high {
-        let middle = low + (high - low) / 2;
-        let region = region_of(file, middle);
-        let first = region.first.0;
-        if first <= place {
-            low = middle + 1;
-        } else {
-            high = middle;
-        }
+    let regions = region_count(file);
+    let mut k = 0;
+    while k < regions {
+        let region = region_of(file, k);
+        let first = region.first;
+        let last = region.last;
+        k += 1;
+        paint(innermost, first, last, k);
     }
-    low
 }
 
-// The number of the last region that holds the leaf, which is the innermost one; 0 if none does.
-fn innermost(file: &[u8], parents: &[u16], leaf: Leaf) -> u16
-    requires { ⌜ Nested (familyOf (now file)) (now parents) ⌝ }
-    ensures { λ r. ⌜ LastHolding (familyOf (now (file .entry))) (leaf .0) r ⌝ }
+// Writes how many marks each region can take: its z.
+fn fill_spare(file: &[u8], spare: &mut [u16])
+    requires { ⌜ regionCount (familyOf (now file)) ≤ length (now spare) ⌝ }
+    ensures { λ _. ⌜ length (now (spare .exit)) ≡ length (now (spare .entry)) ⌝ }
+    ensures { λ _. ⌜ ((k : ℕ) → k < regionCount (familyOf (now (file .entry))) → getD (now (spare .exit)) k 0 ≡ region (familyOf (now (file .entry))) k .z) ⌝ }
 {
-    let place = leaf.0;
-    let mut number = begun(file, leaf);
-    while number != 0 {
-        let region = region_of(file, number - 1);
-        let last = region.last.0;
-        if place <= last {
-            return number;
-        }
-        number = parents[(number - 1) as usize];
+    let regions = region_count(file);
+    let mut k = 0;
+    while k < regions {
+        let region = region_of(file, k);
+        spare[k as usize] = region.z;
+        k += 1;
     }
-    0
 }
 
-// Whether the region of that number, or one around it, already has z marked peptides.
-fn is_crowded(file: &[u8], parents: &[u16], counts: &[u16], inner: u16) -> bool
-    requires { ⌜ Nested (familyOf (now file)) (now parents) ⌝ }
-    requires { ⌜ regionCount (familyOf (now file)) ≤ length (now counts) ⌝ }
-    requires { ⌜ inner ≤ regionCount (familyOf (now file)) ⌝ }
-    ensures { λ r. ⌜ ((leaf : ℕ) → LastHolding (familyOf (now (file .entry))) leaf inner → r ≡ crowded (familyOf (now (file .entry))) (now (counts .entry)) leaf) ⌝ }
-{
-    let mut number = inner;
-    while number != 0 {
-        let region = region_of(file, number - 1);
-        let z = region.z;
-        if z <= counts[(number - 1) as usize] {
-            return true;
-        }
-        number = parents[(number - 1) as usize];
-    }
-    false
-}
-
-// Counts one marked peptide in the region of that number and in all around it.
-fn count_mark(parents: &[u16], counts: &mut [u16], inner: u16)
-    requires { ⌜ (inner ≤ length (now parents)) × (inner ≤ length (now counts)) ⌝ }
-    requires { ⌜ ((k : ℕ) → k < inner → (getD (now parents) k 0 ≤ k) × (getD (now counts) k 0 < 65535)) ⌝ }
-    ensures { λ _. ⌜ ((F : Family) (leaf : ℕ) → Nested F (now (parents .entry)) → LastHolding F leaf inner → CountedOne F (now (counts .entry)) leaf (now (counts .exit))) ⌝ }
+// Whether the region of that number, or one around it, can take no more marks.
+fn is_crowded(parents: &[u16], spare: &[u16], inner: u16) -> bool
+    requires { ⌜ (inner ≤ length (now parents)) × (inner ≤ length (now spare)) ⌝ }
+    requires { ⌜ ((k : ℕ) → k < inner → getD (now parents) k 0 ≤ k) ⌝ }
+    ensures { λ r. ⌜ ((F : Family) (leaf : ℕ) → Nested F (now (parents .entry)) → LastHolding F leaf inner → r ≡ crowded F (now (spare .entry)) leaf) ⌝ }
 {
     let mut number = inner;
     while number != 0 {
         let k = (number - 1) as usize;
-        counts[k] = counts[k] + 1;
+        if spare[k] == 0 {
+            return true;
+        }
+        number = parents[k];
+    }
+    false
+}
+
+// Takes one mark from what the region of that number, and each around it, can take.
+fn take_mark(parents: &[u16], spare: &mut [u16], inner: u16)
+    requires { ⌜ Uncrowded (now parents) (now spare) inner ⌝ }
+    ensures { λ _. ⌜ ((F : Family) (leaf : ℕ) → Nested F (now (parents .entry)) → LastHolding F leaf inner → OneLess F (now (spare .entry)) leaf (now (spare .exit))) ⌝ }
+{
+    let mut number = inner;
+    while number != 0 {
+        let k = (number - 1) as usize;
+        spare[k] = spare[k] - 1;
         number = parents[k];
     }
 }
 
-// Marks the peptide unless a region that holds it is crowded: 1 if it is marked, else 0. The counts go up by it.
-fn mark_next(file: &[u8], parents: &[u16], counts: &mut [u16], peptide: Peptide) -> u8
+// Marks the peptide unless a region that holds it is crowded: 1 if it is marked, else 0.
+fn mark_next(
+    file: &[u8],
+    parents: &[u16],
+    innermost: &[u16],
+    spare: &mut [u16],
+    peptide: Peptide,
+) -> u8
     requires { ⌜ Nested (familyOf (now file)) (now parents) ⌝ }
-    requires { ⌜ regionCount (familyOf (now file)) ≤ length (now counts) ⌝ }
-    requires { ⌜ ((k : ℕ) → k < regionCount (familyOf (now file)) → getD (now counts) k 0 < 65535) ⌝ }
-    ensures { λ r. ⌜ MarkedNext (familyOf (now (file .entry))) (now (counts .entry)) (peptide .0) (now (counts .exit)) r ⌝ }
+    requires { ⌜ Innermost (familyOf (now file)) (now innermost) ⌝ }
+    requires { ⌜ leafOf (familyOf (now file)) (peptide .0) < length (now innermost) ⌝ }
+    requires { ⌜ regionCount (familyOf (now file)) ≤ length (now spare) ⌝ }
+    ensures { λ r. ⌜ MarkedNext (familyOf (now (file .entry))) (now (spare .entry)) (peptide .0) (now (spare .exit)) r ⌝ }
 {
-    let inner = innermost(file, parents, leaf_of(file, peptide));
-    if is_crowded(file, parents, counts, inner) {
+    let leaf = leaf_of(file, peptide);
+    let inner = innermost[leaf.0 as usize];
+    if is_crowded(parents, spare, inner) {
         return 0;
     }
-    count_mark(parents, counts, inner);
+    take_mark(parents, spare, inner);
     1
 }
 
@@ -126,12 +140,15 @@ pub(crate) fn write_curve(
     ensures { λ _. ⌜ now (values .exit) ≡ curveValues (familyOf (now (file .entry))) (now (path .entry)) ++ drop (length (now (path .entry)) + 1) (now (values .entry)) ⌝ }
     ensures { λ _. ⌜ now (marks .exit) ≡ curveMarks (familyOf (now (file .entry))) (now (path .entry)) ++ drop (length (now (path .entry))) (now (marks .entry)) ⌝ }
 {
-    let mut counts = [0u16; 8191];
+    let mut spare = [0u16; 8191];
+    fill_spare(file, &mut spare);
+    let mut innermost = [0u16; 4097];
+    fill_innermost(file, &mut innermost);
     let mut entry = 0;
     let mut t = 0;
     values[0] = 0;
     while t < path.len() {
-        let mark = mark_next(file, parents, &mut counts, Peptide(path[t]));
+        let mark = mark_next(file, parents, &innermost, &mut spare, Peptide(path[t]));
         entry = next_entry(entry, mark);
         values[t + 1] = entry;
         marks[t] = mark;
@@ -156,12 +173,21 @@ pub(crate) fn find_cut(file: &[u8], parents: &[u16], path: &[u16], a: u16, b: u1
     ensures { λ r. ⌜ r ≡ cutOf (familyOf (now (file .entry))) (now (path .entry)) a b ⌝ }
 {
     let places = path.len() as u16;
-    let mut counts = [0u16; 8191];
+    let mut spare = [0u16; 8191];
+    fill_spare(file, &mut spare);
+    let mut innermost = [0u16; 4097];
+    fill_innermost(file, &mut innermost);
     let mut entry = 0;
     let mut cut = 0;
     let mut t = 0;
     while t < places {
-        let mark = mark_next(file, parents, &mut counts, Peptide(path[t as usize]));
+        let mark = mark_next(
+            file,
+            parents,
+            &innermost,
+            &mut spare,
+            Peptide(path[t as usize]),
+        );
         entry = next_entry(entry, mark);
         cut = later_cut(cut, entry, t + 1, a, b);
         t += 1;

@@ -6,7 +6,7 @@ use native.Mathlib.Numerals.{add-one}
 use mathlib.Core.Bool.{true, false}
 use mathlib.Core.List.{List, [], _∷_, _++_}
 use mathlib.Core.Path.{_≡_, refl, sym, ap}
-use lib.ListN.{length, getD, take, drop, set}
+use lib.ListN.{length, getD, take, drop, set, replicate}
 use lib.Seq.{ext-getD, drop-cons, take-suc, set-at, append-snoc, length-take-le}
 use lib.Dec.{eqb}
 use borrow.Author.Tests.{eqb-true, eq-eqb}
@@ -61,3 +61,9 @@ pub copy-more :
 copy-more f t i lf lt =
     rw (drop-cons t i 0 lt, set-at (take i f) (getD t i 0) (drop (suc i) t) (getD f i 0) i (length-take-le i f (omega arith)), add-one i, take-suc f i 0 lf)
     (sym (append-snoc (take i f) (getD f i 0) (drop (suc i) t)))
+
+-- a row of zeros, which nothing past its end differs from
+pub zeros : (n k : ℕ) → _≡_ {A = ℕ} (getD (replicate n 0) k 0) 0
+zeros zero k = refl
+zeros (suc n) zero = refl
+zeros (suc n) (suc k) = zeros n k

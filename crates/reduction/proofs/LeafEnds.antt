@@ -7,7 +7,7 @@ use mathlib.Core.Path.{_≡_, refl, sym, ap, _∙_}
 use native.Mathlib.Nat.{eq-or-lt-of-le}
 use native.Mathlib.Numerals.{add-one}
 use native.Mathlib.Omega.{arith}
-use lib.ListN.{length, getD, set, replicate, length-append, length-set}
+use lib.ListN.{length, getD, set, length-append, length-set}
 use lib.Seq.{getD-set-same, getD-set-other}
 use lib.Dec.{eqb}
 use borrow.Author.Tests.{eqb-true, eqb-false}
@@ -22,11 +22,6 @@ use Rattle.reduction.proofs.Leaves.{leaves-count}
 use Rattle.reduction.proofs.NumberRows.{numbers-none, numbers-join}
 
 -- Marks.
-
-pub zeros : (n p : ℕ) → _≡_ {A = ℕ} (getD (replicate n 0) p 0) 0
-zeros zero p = refl
-zeros (suc n) zero = refl
-zeros (suc n) (suc p) = zeros n p
 
 -- one place more is marked
 mark-more : (E : List ℕ) (X : Peptides) (i : ℕ) → i < length E → Marks E X → Marks (set E i 1) (λ p. eqb p i || X p)
