@@ -1,5 +1,5 @@
 -- Some, none, the first and how many of the numbers below a limit pass a test.
-use Prim.Native.Nat.{ℕ, zero, suc, _+_, _<_}
+use Prim.Native.Nat.{ℕ, zero, suc, _+_, _<_, _≤_}
 use native.Mathlib.Nat.{not-suc-le-zero, eq-or-lt-of-le, le-of-suc-le-suc}
 use native.Mathlib.Numerals.{add-one}
 use native.Mathlib.Omega.{arith}
@@ -52,6 +52,10 @@ module _ (p : ℕ → Bool) where
       (λ a. let f = found n a in (f .0, omega (arith, f .1), f .2))
       (λ b. (n, omega arith, b))
       (or-either (someBelow n p) (p n) h)
+
+  -- one that passes below a limit is below any higher limit
+  pub some-below-more : (k n : ℕ) → k ≤ n → someBelow k p ≡ true → someBelow n p ≡ true
+  some-below-more k n h t = let f = found k t in some-at n (f .0) (omega (arith, f .1)) (f .2)
 
   pub first-none : (n : ℕ) → someBelow n p ≡ false → firstBelow n p ≡ 0
   unfolding someBelow firstBelow

@@ -14,6 +14,7 @@ use Rattle.reader.specs.Bytes.{numberAt}
 use Rattle.reader.specs.Family.{Region, Family, leaves, regionCount, region, regionAt, lengthAt, familyOf, mark}
 use Rattle.reader.specs.Nesting.{before}
 use Rattle.reader.specs.Causes.{cause1, cause2, cause3, cause4, cause5, cause6, cause7, cause8, misplaced, firstCause, headerCauses}
+use Rattle.reader.specs.InPlace.{emptyLeaf}
 use Rattle.reader.proofs.Bools.{test, refuted, and-l, and-r, and-both, or-l, or-r, or-either, or-neither, or-fails-l, or-fails-r, not-fails, not-passes}
 use Rattle.reader.proofs.Below.{none-at, none-below, some-same}
 use Rattle.reader.proofs.Lists.{same-equal, same-refl}
@@ -227,16 +228,13 @@ module _ (F : Family) where
 -- The causes 6 to 8 at the bytes.
 
 module _ (s : List ℕ) where
-  pub lengths-at-bytes :
-      cause6 (familyOf s)
-      ≡ someBelow (numberAt s 6) (λ j. eqb (lengthAt s j) 0) || not (eqb (sum (familyOf s .lengths)) (numberAt s 4))
-  unfolding cause6
+  pub lengths-at-bytes : cause6 (familyOf s) ≡ someBelow (numberAt s 6) (emptyLeaf s) || not (eqb (sum (familyOf s .lengths)) (numberAt s 4))
+  unfolding cause6 emptyLeaf
   lengths-at-bytes =
       rw (leaves-read s, some-same (λ j. eqb (getD (familyOf s .lengths) j 0) 0) (λ j. eqb (lengthAt s j) 0) (numberAt s 6) (λ j l. rw (length-read s j l)), peptides-read s)
 
   -- the last test, where no length is 0
-  pub sum-at-bytes :
-      someBelow (numberAt s 6) (λ j. eqb (lengthAt s j) 0) ≡ false → cause6 (familyOf s) ≡ not (eqb (sum (familyOf s .lengths)) (numberAt s 4))
+  pub sum-at-bytes : someBelow (numberAt s 6) (emptyLeaf s) ≡ false → cause6 (familyOf s) ≡ not (eqb (sum (familyOf s .lengths)) (numberAt s 4))
   sum-at-bytes h = lengths-at-bytes ∙ ap (λ (b : Bool). b || not (eqb (sum (familyOf s .lengths)) (numberAt s 4))) h
 
   pub placed-at-bytes : cause7 (familyOf s) ≡ someBelow (numberAt s 8) (λ k. misplaced (numberAt s 6) (regionAt s k))

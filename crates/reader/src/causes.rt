@@ -3,17 +3,20 @@ use crate::bytes::number_at;
 use crate::bytes::number_within;
 use crate::bytes::same_bytes;
 use crate::family::Region;
+use crate::family::leaf_count;
+use crate::family::peptide_count;
 use crate::family::region_at;
 use crate::family::region_within;
 ghost use mathlib.Core.Path.{_≡_};
 ghost use mathlib.Core.Bool.{not, _||_};
-ghost use Prim.Native.Nat.{_<_};
+ghost use Prim.Native.Nat.{_+_, _<_, _≤_, min};
 ghost use lib.Dec.{eqb};
+ghost use Rattle.reader.specs.Lists.{sum, someBelow};
 ghost use Rattle.reader.specs.Bytes.{numberAt};
 ghost use Rattle.reader.specs.Family.{familyOf, regionAt};
 ghost use Rattle.reader.specs.Nesting.{before};
 ghost use Rattle.reader.specs.Causes.{cause1, cause5, cause6, cause7, cause8, misplaced, firstCause, headerCauses};
-ghost use Rattle.reader.specs.InPlace.{Whole};
+ghost use Rattle.reader.specs.InPlace.{Whole, emptyLeaf};
 ghost use Rattle.reader.specs.Calls.{held};
 
 fn lacks_mark(file: &[u8]) -> bool
@@ -78,25 +81,76 @@ fn empty_so_far(before: bool, length: u16) -> bool
     if before { true } else { length == 0 }
 }
 
-// A leaf length 0, or their sum not m. The loop goes to the end in any case: several lengths are then added at once.
+// Whether one of the leaves from one place to another, counted from 0, is empty. The loop goes to the end in any case:
+// several lengths are then compared at once.
+fn some_empty(file: &[u8], from: usize, to: usize) -> bool
+    requires { ⌜ Whole (now file) ⌝ }
+    requires { ⌜ from ≤ to ⌝ }
+    requires { ⌜ to ≤ numberAt (now file) 6 ⌝ }
+    ensures { λ r. ⌜ someBelow to (emptyLeaf (now (file .entry))) ≡ (someBelow from (emptyLeaf (now (file .entry))) || r) ⌝ }
+{
+    let mut empty = false;
+    let mut j = from;
+    while j < to {
+        empty = empty_so_far(empty, number_within(file, 16 + 2 * j));
+        j += 1;
+    }
+    empty
+}
+
+// Where 64 leaves end that begin at a place, or the leaves.
+fn block_end(from: usize, leaves: usize) -> usize
+    requires { ⌜ from ≤ leaves ⌝ }
+    ensures { λ r. ⌜ r ≡ min (from + 64) leaves ⌝ }
+{
+    if leaves - from < 64 {
+        leaves
+    } else {
+        from + 64
+    }
+}
+
+// Whether a leaf is empty: 64 leaves at a time, so that a file of empty leaves is refused at once.
+fn has_empty_leaf(file: &[u8]) -> bool
+    requires { ⌜ Whole (now file) ⌝ }
+    ensures { λ r. ⌜ r ≡ someBelow (numberAt (now (file .entry)) 6) (emptyLeaf (now (file .entry))) ⌝ }
+{
+    let leaves = leaf_count(file) as usize;
+    let mut j = 0;
+    while j < leaves {
+        let end = block_end(j, leaves);
+        if some_empty(file, j, end) {
+            return true;
+        }
+        j = end;
+    }
+    false
+}
+
+// The lengths of all leaves, added up. The loop has no way out: several lengths are then added at once.
+fn added_lengths(file: &[u8]) -> u32
+    requires { ⌜ Whole (now file) ⌝ }
+    ensures { λ r. ⌜ r ≡ sum (familyOf (now (file .entry)) .lengths) ⌝ }
+{
+    let leaves = leaf_count(file) as usize;
+    let mut sum: u32 = 0;
+    let mut j = 0;
+    while j < leaves {
+        sum += number_within(file, 16 + 2 * j) as u32;
+        j += 1;
+    }
+    sum
+}
+
+// A leaf length 0, or their sum not m.
 pub(crate) fn bad_lengths(file: &[u8]) -> bool
     requires { ⌜ Whole (now file) ⌝ }
     ensures { λ r. ⌜ r ≡ cause6 (familyOf (now (file .entry))) ⌝ }
 {
-    let leaves = number_at(file, 6) as usize;
-    let mut sum: usize = 0;
-    let mut empty = false;
-    let mut j = 0;
-    while j < leaves {
-        let length = number_within(file, 16 + 2 * j);
-        empty = empty_so_far(empty, length);
-        sum += length as usize;
-        j += 1;
-    }
-    if empty {
+    if has_empty_leaf(file) {
         return true;
     }
-    sum != number_at(file, 4) as usize
+    added_lengths(file) != peptide_count(file) as u32
 }
 
 // First leaf 0, last below first, or last over N, of some region.
