@@ -9,7 +9,7 @@ use lib.ListN.{length, getD, take, drop, length-append, length-drop, take-append
 use lib.Seq.{ext-getD, getD-append-add, getD-drop, take-append-seam}
 use Rattle.reader.specs.Lists.{tabulate, sum}
 use Rattle.reader.specs.Bytes.{IsBytes, numberAt, bytesOf}
-use Rattle.reader.specs.Family.{Region, Family, leaves, regionCount, region, mark, lengthAt, regionAt, familyOf, regionFields, fields, fileOf}
+use Rattle.reader.specs.Family.{Region, Family, noRegion, leaves, regionCount, region, mark, lengthAt, regionAt, familyOf, regionFields, fields, fileOf}
 use Rattle.reader.specs.Causes.{Accepted}
 use Rattle.reader.specs.WellFormed.{WellFormed}
 use Rattle.reader.proofs.Lists.{length-tabulate, getD-tabulate}
@@ -72,9 +72,6 @@ region-fields-length : (rs : List Region) → length (regionFields rs) ≡ 3 * l
 unfolding regionFields
 region-fields-length [] = refl
 region-fields-length (r ∷ rs) = omega (arith, region-fields-length rs)
-
-abbrev noRegion : Region
-noRegion = record { first = 0; last = 0; z = 0 }
 
 triple-suc : (k : ℕ) → 3 * suc k ≡ suc (suc (suc (3 * k)))
 triple-suc k = omega arith

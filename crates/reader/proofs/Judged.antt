@@ -243,13 +243,6 @@ module _ (s : List ℕ) where
       rw (regions-read s, leaves-read s)
       (some-same (λ k. misplaced (numberAt s 6) (region (familyOf s) k)) (λ k. misplaced (numberAt s 6) (regionAt s k)) (numberAt s 8) (λ k l. rw (region-read s k l)))
 
-  pub rise-at-bytes : cause8 (familyOf s) ≡ someBelow (numberAt s 8 - 1) (λ k. not (before (regionAt s k) (regionAt s (k + 1))))
-  unfolding cause8
-  rise-at-bytes =
-      rw (regions-read s)
-      (some-same (λ k. not (before (region (familyOf s) k) (region (familyOf s) (k + 1)))) (λ k. not (before (regionAt s k) (regionAt s (k + 1)))) (numberAt s 8 - 1)
-      (λ k l. rw (region-read s k (omega arith), region-read s (k + 1) (omega arith))))
-
 -- The first cause of the header that holds.
 
 module _ (s : List ℕ) where

@@ -26,9 +26,12 @@ leaves F = length (F .lengths)
 abbrev pub regionCount : Family → ℕ
 regionCount F = length (F .regions)
 
+abbrev pub noRegion : Region
+noRegion = record { first = 0; last = 0; z = 0 }
+
 -- the k-th region, counted from 0
 unfoldable pub region : Family → ℕ → Region
-region F k = getD (F .regions) k (record { first = 0; last = 0; z = 0 })
+region F k = getD (F .regions) k noRegion
 
 -- the length of leaf j, for j from 1 to N; 0 for any other number
 unfoldable pub leafLength : Family → ℕ → ℕ

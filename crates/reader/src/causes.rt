@@ -5,7 +5,8 @@ use crate::bytes::same_bytes;
 use crate::family::Region;
 use crate::family::leaf_count;
 use crate::family::peptide_count;
-use crate::family::region_at;
+use crate::family::region_count;
+use crate::family::region_of;
 use crate::family::region_within;
 ghost use mathlib.Core.Path.{_≡_};
 ghost use mathlib.Core.Bool.{not, _||_};
@@ -192,8 +193,8 @@ pub(crate) fn misordered_region(file: &[u8]) -> bool
     requires { ⌜ Whole (now file) ⌝ }
     ensures { λ r. ⌜ r ≡ cause8 (familyOf (now (file .entry))) ⌝ }
 {
-    let regions = number_at(file, 8);
-    let mut r = region_at(file, 0);
+    let regions = region_count(file);
+    let mut r = region_of(file, 0);
     let mut k = 0;
     while k + 1 < regions {
         let q = region_within(file, k + 1);

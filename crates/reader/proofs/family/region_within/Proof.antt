@@ -1,6 +1,8 @@
 -- The three numbers stand where the region's record begins.
-use Rattle.reader.specs.Family.{regionAt}
-use Rattle.reader.specs.Calls.{held}
+use Prim.Native.Nat.{_+_, _*_}
+use native.Mathlib.Omega.{arith}
+use denote.Ref.{now}
+use Rattle.reader.proofs.Parsed.{region-held}
 use borrow.Author.Needs.{needs}
 use Rattle.reader.proofs.family.region_within.Statement.{statement}
 use Rattle.reader.proofs.family.region_within.Tie as tie
@@ -39,8 +41,11 @@ number-within-requires-4 : tie.Need-number-within-requires-4
 number-within-requires-4 c κs = search needs
 
 returns : tie.Need-returns
-unfolding held regionAt
-returns c = cc
+returns c =
+    let s = now (c .before .before .before .before .before .args .file) in
+    let k = c .before .before .before .before .before .args .k in
+    let at = 16 + 2 * c .before .before .before .number-within .result + 6 * k in
+    region-held s k at _ (omega arith) (c .before .before .number-within2 .ensures) (c .before .number-within3 .ensures) (c .number-within4 .ensures)
 
 pub region-within-spec : {M : Type 1} → statement M
 region-within-spec =
