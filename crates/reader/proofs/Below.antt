@@ -72,11 +72,6 @@ module _ (p : ℕ → Bool) where
       (λ j. rw (some-at n k j t, first-at n k j t h))
       (below-suc l)
 
-pub some-same : (p q : ℕ → Bool) (n : ℕ) → ((k : ℕ) → k < n → p k ≡ q k) → someBelow n p ≡ someBelow n q
-unfolding someBelow
-some-same p q zero h = refl
-some-same p q (suc n) h = rw (some-same p q n (λ k l. h k (omega arith)), h n (omega arith))
-
 pub count-same : (p q : ℕ → Bool) (n : ℕ) → ((k : ℕ) → k < n → p k ≡ q k) → countBelow n p ≡ countBelow n q
 unfolding countBelow
 count-same p q zero h = refl

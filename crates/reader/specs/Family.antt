@@ -59,10 +59,10 @@ abbrev pub lengthsOffset : ℕ
 lengthsOffset = 16
 
 abbrev pub regionsOffset : ℕ → ℕ
-regionsOffset n = 16 + 2 * n
+regionsOffset n = lengthsOffset + 2 * n
 
 abbrev pub totalLength : ℕ → ℕ → ℕ
-totalLength n k = 16 + 2 * n + 6 * k
+totalLength n k = regionsOffset n + 6 * k
 
 -- the length of the j-th leaf, and the k-th region, counted from 0
 unfoldable pub lengthAt : List ℕ → ℕ → ℕ

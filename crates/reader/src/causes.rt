@@ -13,8 +13,7 @@ ghost use mathlib.Core.Bool.{not, _||_};
 ghost use Prim.Native.Nat.{_+_, _<_, _≤_, min};
 ghost use lib.Dec.{eqb};
 ghost use Rattle.reader.specs.Lists.{sum, someBelow};
-ghost use Rattle.reader.specs.Bytes.{numberAt};
-ghost use Rattle.reader.specs.Family.{familyOf, regionAt};
+ghost use Rattle.reader.specs.Family.{familyOf, leaves, regionCount, region};
 ghost use Rattle.reader.specs.Nesting.{before};
 ghost use Rattle.reader.specs.Causes.{cause1, cause5, cause6, cause7, cause8, misplaced, firstCause, headerCauses};
 ghost use Rattle.reader.specs.InPlace.{Whole, emptyLeaf};
@@ -87,8 +86,8 @@ fn empty_so_far(before: bool, length: u16) -> bool
 fn some_empty(file: &[u8], from: usize, to: usize) -> bool
     requires { ⌜ Whole (now file) ⌝ }
     requires { ⌜ from ≤ to ⌝ }
-    requires { ⌜ to ≤ numberAt (now file) 6 ⌝ }
-    ensures { λ r. ⌜ someBelow to (emptyLeaf (now (file .entry))) ≡ (someBelow from (emptyLeaf (now (file .entry))) || r) ⌝ }
+    requires { ⌜ to ≤ leaves (familyOf (now file)) ⌝ }
+    ensures { λ r. ⌜ someBelow to (emptyLeaf (familyOf (now (file .entry)))) ≡ (someBelow from (emptyLeaf (familyOf (now (file .entry)))) || r) ⌝ }
 {
     let mut empty = false;
     let mut j = from;
@@ -114,7 +113,7 @@ fn block_end(from: usize, leaves: usize) -> usize
 // Whether a leaf is empty: 64 leaves at a time, so that a file of empty leaves is refused at once.
 fn has_empty_leaf(file: &[u8]) -> bool
     requires { ⌜ Whole (now file) ⌝ }
-    ensures { λ r. ⌜ r ≡ someBelow (numberAt (now (file .entry)) 6) (emptyLeaf (now (file .entry))) ⌝ }
+    ensures { λ r. ⌜ r ≡ someBelow (leaves (familyOf (now (file .entry)))) (emptyLeaf (familyOf (now (file .entry)))) ⌝ }
 {
     let leaves = leaf_count(file) as usize;
     let mut j = 0;
@@ -159,8 +158,8 @@ pub(crate) fn misplaced_region(file: &[u8]) -> bool
     requires { ⌜ Whole (now file) ⌝ }
     ensures { λ r. ⌜ r ≡ cause7 (familyOf (now (file .entry))) ⌝ }
 {
-    let leaves = number_at(file, 6);
-    let regions = number_at(file, 8);
+    let leaves = leaf_count(file);
+    let regions = region_count(file);
     let mut k = 0;
     while k < regions {
         if misplaced_at(file, leaves, k) {
@@ -173,8 +172,8 @@ pub(crate) fn misplaced_region(file: &[u8]) -> bool
 
 fn misplaced_at(file: &[u8], leaves: u16, k: u16) -> bool
     requires { ⌜ Whole (now file) ⌝ }
-    requires { ⌜ k < numberAt (now file) 8 ⌝ }
-    ensures { λ r. ⌜ r ≡ misplaced leaves (regionAt (now (file .entry)) k) ⌝ }
+    requires { ⌜ k < regionCount (familyOf (now file)) ⌝ }
+    ensures { λ r. ⌜ r ≡ misplaced leaves (region (familyOf (now (file .entry))) k) ⌝ }
 {
     let r = region_within(file, k);
     let first = r.first.0;

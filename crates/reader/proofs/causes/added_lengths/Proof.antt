@@ -1,10 +1,9 @@
 -- The loop has added the lengths before leaf j.
 use Prim.Native.Nat.{_≤_, _-_, _*_}
 use native.Mathlib.Omega.{arith}
-use mathlib.Core.Path.{_≡_, sym, _∙_}
+use mathlib.Core.Path.{_≡_, sym}
 use denote.Ref.{now}
-use Rattle.reader.specs.Bytes.{numberAt}
-use Rattle.reader.specs.Family.{familyOf, peptidesUpTo}
+use Rattle.reader.specs.Family.{familyOf, leaves, peptidesUpTo}
 use Rattle.reader.proofs.Parsed.{leaves-read, length-number}
 use Rattle.reader.proofs.Walk.{nothing-before, up-to-next, up-to-end}
 use borrow.Author.Needs.{needs}
@@ -12,15 +11,15 @@ use Rattle.reader.proofs.causes.added_lengths.Statement.{statement}
 use Rattle.reader.proofs.causes.added_lengths.Tie as tie
 
 abbrev Inv-loop : tie.InvT-loop
-Inv-loop file leaves sum₀ j₀ sum j =
-    (j ≤ leaves)
-    × (leaves ≡ numberAt file 6)
-    × (leaves ≤ 65535)
+Inv-loop file n sum₀ j₀ sum j =
+    (j ≤ n)
+    × (n ≡ leaves (familyOf file))
+    × (n ≤ 65535)
     × (sum ≤ 65535 * j)
     × (sum ≡ peptidesUpTo (familyOf file) j)
 
 abbrev μ-loop : tie.MeasureT-loop
-μ-loop file leaves sum₀ j₀ sum j = leaves - j
+μ-loop file n sum₀ j₀ sum j = n - j
 
 leaf-count-requires : tie.Need-leaf-count-requires Inv-loop μ-loop
 leaf-count-requires c κs = search needs
@@ -30,8 +29,7 @@ cast-leaves c = search needs
 
 loop-holds : tie.Need-loop-holds Inv-loop μ-loop
 loop-holds c =
-    let s = now (c .before .before .args .file) in
-    (omega arith, c .leaf-count .ensures ∙ leaves-read s, omega (arith, c .leaf-count .ok), omega arith, sym (nothing-before _))
+    (omega arith, c .leaf-count .ensures, omega (arith, c .leaf-count .ok), omega arith, sym (nothing-before _))
 
 mul-number-within : tie.Need-mul-number-within Inv-loop μ-loop
 mul-number-within c = search needs
@@ -59,12 +57,12 @@ loop-again c =
     let s = now (c .before .before .before .before .before .args .file) in
     let j = c .before .before .loop .j in
     let inv = c .before .before .loop .inv in
-    (omega arith, inv .1, inv .2, omega (arith, c .number-within .ok), omega (arith, up-to-next (familyOf s) j, length-number s j (omega arith)))
+    (omega arith, inv .1, inv .2, omega (arith, c .number-within .ok), omega (arith, up-to-next (familyOf s) j, length-number s j (omega (arith, leaves-read s))))
 
 returns : tie.Need-returns Inv-loop μ-loop
 returns c =
     let s = now (c .before .before .before .before .args .file) in
-    omega (arith, up-to-end (familyOf s) (c .before .loop .j) (omega (arith, leaves-read s)))
+    omega (arith, up-to-end (familyOf s) (c .before .loop .j) (omega arith))
 
 pub added-lengths-spec : {M : Type 1} → statement M
 added-lengths-spec =

@@ -5,20 +5,19 @@ use mathlib.Core.Bool.{false}
 use mathlib.Core.Path.{_≡_, sym, _∙_}
 use denote.Ref.{now}
 use Rattle.reader.specs.Lists.{someBelow}
-use Rattle.reader.specs.Bytes.{numberAt}
+use Rattle.reader.specs.Family.{familyOf, leaves}
 use Rattle.reader.specs.InPlace.{emptyLeaf}
 use Rattle.reader.proofs.Bools.{or-r, or-neither}
 use Rattle.reader.proofs.Below.{none-below-zero, some-below-more}
-use Rattle.reader.proofs.Parsed.{leaves-read}
 use borrow.Author.Needs.{needs}
 use Rattle.reader.proofs.causes.has_empty_leaf.Statement.{statement}
 use Rattle.reader.proofs.causes.has_empty_leaf.Tie as tie
 
 abbrev Inv-loop : tie.InvT-loop
-Inv-loop file leaves j₀ j = (j ≤ leaves) × (leaves ≡ numberAt file 6) × (someBelow j (emptyLeaf file) ≡ false)
+Inv-loop file n j₀ j = (j ≤ n) × (n ≡ leaves (familyOf file)) × (someBelow j (emptyLeaf (familyOf file)) ≡ false)
 
 abbrev μ-loop : tie.MeasureT-loop
-μ-loop file leaves j₀ j = leaves - j
+μ-loop file n j₀ j = n - j
 
 leaf-count-requires : tie.Need-leaf-count-requires Inv-loop μ-loop
 leaf-count-requires c κs = search needs
@@ -27,7 +26,7 @@ cast-leaves : tie.Need-cast-leaves Inv-loop μ-loop
 cast-leaves c = search needs
 
 loop-holds : tie.Need-loop-holds Inv-loop μ-loop
-loop-holds c = (omega arith, c .leaf-count .ensures ∙ leaves-read (now (c .before .before .args .file)), none-below-zero _)
+loop-holds c = (omega arith, c .leaf-count .ensures, none-below-zero _)
 
 block-end-requires : tie.Need-block-end-requires Inv-loop μ-loop
 block-end-requires c κs = search needs
@@ -37,9 +36,9 @@ some-empty-requires c κs = search needs
 
 returns : tie.Need-returns Inv-loop μ-loop
 returns c =
-    let s = now (c .before .before .before .before .before .before .before .args .file) in
-    let here = or-r (someBelow (c .before .before .before .before .loop .j) (emptyLeaf s)) (c .before .some-empty .result) (c .if1 .taken) in
-    sym (some-below-more (emptyLeaf s) (c .before .before .block-end .result) (numberAt s 6) (omega arith) (c .before .some-empty .ensures ∙ here))
+    let F = familyOf (now (c .before .before .before .before .before .before .before .args .file)) in
+    let here = or-r (someBelow (c .before .before .before .before .loop .j) (emptyLeaf F)) (c .before .some-empty .result) (c .if1 .taken) in
+    sym (some-below-more (emptyLeaf F) (c .before .before .block-end .result) (leaves F) (omega arith) (c .before .some-empty .ensures ∙ here))
 
 loop-less : tie.Need-loop-less Inv-loop μ-loop
 loop-less c = search needs
@@ -51,7 +50,7 @@ loop-again c =
 
 returns-2 : tie.Need-returns-2 Inv-loop μ-loop
 returns-2 c =
-    let end : c .before .loop .j ≡ numberAt (now (c .before .before .before .before .args .file)) 6 = omega arith in
+    let end : c .before .loop .j ≡ leaves (familyOf (now (c .before .before .before .before .args .file))) = omega arith in
     sym (rw end at (c .before .loop .inv .2))
 
 pub has-empty-leaf-spec : {M : Type 1} → statement M

@@ -10,7 +10,6 @@ use Rattle.reader.specs.Nesting.{before}
 use Rattle.reader.specs.Causes.{cause8}
 use Rattle.reader.specs.Calls.{held}
 use Rattle.reader.proofs.Below.{none-below-zero, none-more, some-at}
-use Rattle.reader.proofs.Parsed.{regions-read, region-read}
 use borrow.Author.Needs.{needs}
 use Rattle.reader.proofs.causes.misordered_region.Statement.{statement}
 use Rattle.reader.proofs.causes.misordered_region.Tie as tie
@@ -25,21 +24,13 @@ Inv-loop file regions r₀ k₀ r k =
 abbrev μ-loop : tie.MeasureT-loop
 μ-loop file regions r₀ k₀ r k = regions - k
 
--- the region that the loop's body reads
-next-read :
-    (c : tie.After-region-within Inv-loop μ-loop)
-    → held (c .region-within .result) ≡ region (familyOf (now (c .before .before .before .before .before .before .args .file))) (c .before .before .loop .k + 1)
-next-read c =
-    let s = now (c .before .before .before .before .before .before .args .file) in
-    c .region-within .ensures ∙ sym (region-read s _ (omega (arith, regions-read s)))
-
 -- the test of the loop's body speaks of the k-th region and the next
 tested :
     (c : tie.After-not-before Inv-loop μ-loop)
     → c .not-before .result
     ≡ not (before (region (familyOf (now (c .before .before .before .before .before .before .before .args .file))) (c .before .before .before .loop .k))
     (region (familyOf (now (c .before .before .before .before .before .before .before .args .file))) (c .before .before .before .loop .k + 1)))
-tested c = c .not-before .ensures ∙ ap₂ (λ (a b : Region). not (before a b)) (c .before .before .before .loop .inv .2) (next-read (c .before))
+tested c = c .not-before .ensures ∙ ap₂ (λ (a b : Region). not (before a b)) (c .before .before .before .loop .inv .2) (c .before .region-within .ensures)
 
 region-count-requires : tie.Need-region-count-requires Inv-loop μ-loop
 region-count-requires c κs = search needs
@@ -57,7 +48,7 @@ add-region-within : tie.Need-add-region-within Inv-loop μ-loop
 add-region-within c = search needs
 
 region-within-requires : tie.Need-region-within-requires Inv-loop μ-loop
-region-within-requires c κs = omega (arith, regions-read (now (c .before .before .before .before .before .args .file)))
+region-within-requires c κs = (omega arith, omega arith)
 
 not-before-requires : tie.Need-not-before-requires Inv-loop μ-loop
 not-before-requires c κs = search needs
@@ -77,7 +68,7 @@ loop-less c = search needs
 loop-again : tie.Need-loop-again Inv-loop μ-loop
 loop-again c =
     let inv = c .before .before .before .before .loop .inv in
-    (omega arith, inv .1, next-read (c .before .before), none-more _ _ (inv .3) (sym (tested (c .before)) ∙ c .if1 .left))
+    (omega arith, inv .1, c .before .before .region-within .ensures, none-more _ _ (inv .3) (sym (tested (c .before)) ∙ c .if1 .left))
 
 returns-2 : tie.Need-returns-2 Inv-loop μ-loop
 unfolding cause8

@@ -1,14 +1,15 @@
 -- The loop has seen whether one of the leaves from the first place to j is empty.
-use Prim.Native.Nat.{ℕ, _≤_, _-_, _*_}
+use Prim.Native.Nat.{ℕ, _≤_, _-_}
 use native.Mathlib.Omega.{arith}
 use mathlib.Core.Bool.{Bool, _||_, or-false, or-assoc}
 use mathlib.Core.Path.{_≡_, sym, ap, ap₂, _∙_}
 use lib.Dec.{eqb}
 use denote.Ref.{now}
 use Rattle.reader.specs.Lists.{someBelow}
-use Rattle.reader.specs.Family.{lengthAt}
+use Rattle.reader.specs.Family.{familyOf}
 use Rattle.reader.specs.InPlace.{emptyLeaf}
 use Rattle.reader.proofs.Below.{some-more}
+use Rattle.reader.proofs.Parsed.{leaves-read, length-number}
 use borrow.Author.Needs.{needs}
 use Rattle.reader.proofs.causes.some_empty.Statement.{statement}
 use Rattle.reader.proofs.causes.some_empty.Tie as tie
@@ -17,7 +18,7 @@ abbrev Inv-loop : tie.InvT-loop
 Inv-loop file from to empty₀ j₀ empty j =
     (from ≤ j)
     × (j ≤ to)
-    × (someBelow j (emptyLeaf file) ≡ someBelow from (emptyLeaf file) || empty)
+    × (someBelow j (emptyLeaf (familyOf file)) ≡ someBelow from (emptyLeaf (familyOf file)) || empty)
 
 abbrev μ-loop : tie.MeasureT-loop
 μ-loop file from to empty₀ j₀ empty j = to - j
@@ -44,18 +45,19 @@ loop-less : tie.Need-loop-less Inv-loop μ-loop
 loop-less c = search needs
 
 loop-again : tie.Need-loop-again Inv-loop μ-loop
-unfolding emptyLeaf lengthAt
+unfolding emptyLeaf
 loop-again c =
     let s = now (c .before .before .before .before .before .args .file) in
+    let F = familyOf s in
     let from = c .before .before .before .before .before .args .from in
     let j = c .before .before .before .loop .j in
     let inv = c .before .before .before .loop .inv in (
       omega arith,
       omega arith,
-      some-more (emptyLeaf s) j
-          ∙ ap₂ (λ (a : Bool) (n : ℕ). a || eqb n 0) (inv .2) (sym (c .before .number-within .ensures))
-          ∙ or-assoc (someBelow from (emptyLeaf s)) (c .before .before .before .loop .empty) (eqb (c .before .number-within .result) 0)
-          ∙ ap (λ (b : Bool). someBelow from (emptyLeaf s) || b) (sym (c .empty-so-far .ensures)),
+      some-more (emptyLeaf F) j
+          ∙ ap₂ (λ (a : Bool) (n : ℕ). a || eqb n 0) (inv .2) (length-number s j (omega (arith, leaves-read s)) ∙ sym (c .before .number-within .ensures))
+          ∙ or-assoc (someBelow from (emptyLeaf F)) (c .before .before .before .loop .empty) (eqb (c .before .number-within .result) 0)
+          ∙ ap (λ (b : Bool). someBelow from (emptyLeaf F) || b) (sym (c .empty-so-far .ensures)),
     )
 
 returns : tie.Need-returns Inv-loop μ-loop

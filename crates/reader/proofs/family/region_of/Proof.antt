@@ -4,7 +4,7 @@ use Prim.Native.Nat.{_+_, _*_}
 use native.Mathlib.Omega.{arith}
 use mathlib.Core.Path.{sym, _∙_}
 use denote.Ref.{now}
-use Rattle.reader.proofs.Parsed.{region-read, region-past, region-none, region-held}
+use Rattle.reader.proofs.Parsed.{leaves-read, regions-read, region-read, region-past, region-none, region-held}
 use borrow.Author.Needs.{needs}
 use Rattle.reader.proofs.family.region_of.Statement.{statement}
 use Rattle.reader.proofs.family.region_of.Tie as tie
@@ -46,10 +46,12 @@ add-if3 : tie.Need-add-if3
 add-if3 c = search needs
 
 region-within-requires : tie.Need-region-within-requires
-region-within-requires c κs = search needs
+region-within-requires c κs =
+    let s = now (c .before .before .before .before .before .before .args .file) in
+    (omega (arith, regions-read s), omega (arith, leaves-read s))
 
 returns-3 : tie.Need-returns-3
-returns-3 c = c .region-within .ensures ∙ sym (region-read (now (c .before .before .before .before .before .before .before .args .file)) _ (omega arith))
+returns-3 c = c .region-within .ensures
 
 number-at-requires : tie.Need-number-at-requires
 number-at-requires c κs = search needs
