@@ -1,5 +1,5 @@
 -- Some, none, the first and how many of the numbers below a limit pass a test.
-use Prim.Native.Nat.{ℕ, zero, suc, _+_, _<_, _≤_}
+use Prim.Native.Nat.{ℕ, zero, suc, _+_, _-_, _<_, _≤_}
 use native.Mathlib.Nat.{not-suc-le-zero, eq-or-lt-of-le, le-of-suc-le-suc}
 use native.Mathlib.Numerals.{add-one}
 use native.Mathlib.Omega.{arith}
@@ -9,8 +9,15 @@ use mathlib.Core.Logic.{_⊎_, ⊎-elim}
 use Rattle.reader.specs.Lists.{someBelow, countBelow, firstBelow}
 use Rattle.reader.proofs.Bools.{test, clash, or-l, or-r, or-either, or-neither, or-fails-l, or-fails-r}
 
+-- what is below n + 1 is n or below n
 pub below-suc : {k n : ℕ} → k < suc n → (k ≡ n) ⊎ (k < n)
 below-suc h = eq-or-lt-of-le (le-of-suc-le-suc h)
+
+pub below-next : {j k : ℕ} → j < k + 1 → (j ≡ k) ⊎ (j < k)
+below-next h = eq-or-lt-of-le (omega arith)
+
+pub last-below : (i n : ℕ) → i < n → i ≤ n - 1
+last-below i n l = omega arith
 
 module _ (p : ℕ → Bool) where
   pub none-below-zero : someBelow 0 p ≡ false

@@ -20,7 +20,7 @@ use Rattle.reader.proofs.Accepting.{HeaderClear, FamilyClear, accepted-
 
 -- Numbers in a row, as bytes.
 
-length-bytes : (ns : List ℕ) → length (bytesOf ns) ≡ 2 * length ns
+pub length-bytes : (ns : List ℕ) → length (bytesOf ns) ≡ 2 * length ns
 unfolding bytesOf
 length-bytes [] = refl
 length-bytes (n ∷ ns) = omega (arith, length-bytes ns)
