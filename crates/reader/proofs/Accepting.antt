@@ -1,5 +1,5 @@
 -- An accepted file holds a well-formed family, and what the check answers says so.
-use Prim.Native.Nat.{ℕ, zero, suc, _+_, _*_, _-_, _<_, _≤_}
+use Prim.Native.Nat.{ℕ, zero, suc, _+_, _-_, _<_, _≤_}
 use native.Mathlib.Omega.{arith}
 use native.Mathlib.Numerals.{add-one}
 use mathlib.Core.Bool.{false, cond}
@@ -11,7 +11,7 @@ use lib.Dec.{leb}
 use borrow.Author.Tests.{ne-eqb}
 use Rattle.reader.specs.Bytes.{IsBytes}
 use Rattle.reader.specs.Family as family
-use Rattle.reader.specs.Family.{Family, leaves, regionCount, region, regionAt, familyOf}
+use Rattle.reader.specs.Family.{Family, leaves, regionCount, region, regionAt, familyOf, regionsOffset, totalLength}
 use Rattle.reader.specs.Causes.{cause1, cause2, cause3, cause4, cause5, cause6, cause7, cause8, cause9, cause10, firstCause, headerCauses, familyCauses, fileCauses, Accepted}
 use Rattle.reader.specs.WellFormed.{Ordered, WellFormed, ParentsBelow}
 use Rattle.reader.specs.InPlace.{Whole}
@@ -79,7 +79,7 @@ header-clear s h =
     record { no1 = a .0; no2 = b .0; no3 = c .0; no4 = d .0; no5 = e .0 }
 
 pub header-whole : (s : List ℕ) → firstCause (headerCauses s) ≡ 0 → Whole s
-header-whole s h = omega (arith, laid-down s (header-clear s h .no5) .whole)
+header-whole s h = omega (arith, laid-down s (header-clear s h .no5) .whole, leaves-read s, regions-read s)
 
 pub record FamilyClear (F : Family) : Type 0 where
   pub no6 : cause6 F ≡ false
@@ -181,11 +181,11 @@ module _ (s : List ℕ) where
       let F : Family = familyOf s in
       omega (arith, peptides-counted F (h .no2), leaves-counted F (h .no3), regions-counted F (h .no4))
 
-  pub whole-length : HeaderClear s → length s ≡ 16 + 2 * leaves (familyOf s) + 6 * regionCount (familyOf s)
+  pub whole-length : HeaderClear s → length s ≡ totalLength (leaves (familyOf s)) (regionCount (familyOf s))
   whole-length h = omega (arith, laid-down s (h .no5) .whole, leaves-read s, regions-read s)
 
   -- the part of the file with the regions
-  pub part-accepted : Accepted s → regionPart s ≡ drop (16 + 2 * leaves (familyOf s)) s
+  pub part-accepted : Accepted s → regionPart s ≡ drop (regionsOffset (leaves (familyOf s))) s
   unfolding regionPart
   part-accepted h = rw h
 

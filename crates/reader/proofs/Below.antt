@@ -1,5 +1,5 @@
 -- Some, none, the first and how many of the numbers below a limit pass a test.
-use Prim.Native.Nat.{ℕ, zero, suc, _+_, _<_}
+use Prim.Native.Nat.{ℕ, zero, suc, _+_, _-_, _<_, _≤_}
 use native.Mathlib.Nat.{not-suc-le-zero, eq-or-lt-of-le, le-of-suc-le-suc}
 use native.Mathlib.Numerals.{add-one}
 use native.Mathlib.Omega.{arith}
@@ -9,8 +9,15 @@ use mathlib.Core.Logic.{_⊎_, ⊎-elim}
 use Rattle.reader.specs.Lists.{someBelow, countBelow, firstBelow}
 use Rattle.reader.proofs.Bools.{test, clash, or-l, or-r, or-either, or-neither, or-fails-l, or-fails-r}
 
+-- what is below n + 1 is n or below n
 pub below-suc : {k n : ℕ} → k < suc n → (k ≡ n) ⊎ (k < n)
 below-suc h = eq-or-lt-of-le (le-of-suc-le-suc h)
+
+pub below-next : {j k : ℕ} → j < k + 1 → (j ≡ k) ⊎ (j < k)
+below-next h = eq-or-lt-of-le (omega arith)
+
+pub last-below : (i n : ℕ) → i < n → i ≤ n - 1
+last-below i n l = omega arith
 
 module _ (p : ℕ → Bool) where
   pub none-below-zero : someBelow 0 p ≡ false
@@ -53,6 +60,10 @@ module _ (p : ℕ → Bool) where
       (λ b. (n, omega arith, b))
       (or-either (someBelow n p) (p n) h)
 
+  -- one that passes below a limit is below any higher limit
+  pub some-below-more : (k n : ℕ) → k ≤ n → someBelow k p ≡ true → someBelow n p ≡ true
+  some-below-more k n h t = let f = found k t in some-at n (f .0) (omega (arith, f .1)) (f .2)
+
   pub first-none : (n : ℕ) → someBelow n p ≡ false → firstBelow n p ≡ 0
   unfolding someBelow firstBelow
   first-none zero h = refl
@@ -67,11 +78,6 @@ module _ (p : ℕ → Bool) where
       (λ e. rw (none-below n (λ i j. h i (omega (arith, e))), ← e, t))
       (λ j. rw (some-at n k j t, first-at n k j t h))
       (below-suc l)
-
-pub some-same : (p q : ℕ → Bool) (n : ℕ) → ((k : ℕ) → k < n → p k ≡ q k) → someBelow n p ≡ someBelow n q
-unfolding someBelow
-some-same p q zero h = refl
-some-same p q (suc n) h = rw (some-same p q n (λ k l. h k (omega arith)), h n (omega arith))
 
 pub count-same : (p q : ℕ → Bool) (n : ℕ) → ((k : ℕ) → k < n → p k ≡ q k) → countBelow n p ≡ countBelow n q
 unfolding countBelow

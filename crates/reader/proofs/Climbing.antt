@@ -18,7 +18,7 @@ use Rattle.reader.specs.WellFormed.{Ordered, NestedBelow, IsParent, Pare
 use Rattle.reader.specs.Climb.{Climbed, endsBefore, oneDeeper}
 use Rattle.reader.proofs.Bools.{test, clash, refuted, and-l, and-r, and-both, and-fails, not-passes}
 use Rattle.reader.proofs.Lists.{length-tabulate, getD-tabulate}
-use Rattle.reader.proofs.Below.{none-at, none-below, some-at, first-at, first-none, count-none, count-one-more}
+use Rattle.reader.proofs.Below.{below-next, last-below, none-at, none-below, some-at, first-at, first-none, count-none, count-one-more}
 
 -- Leaf ranges that lie within each other, as inequalities.
 
@@ -124,13 +124,6 @@ module _ (F : Family) (o : Ordered F) where
   crossing-found i k l lk a b =
       some-at (λ j. someBelow j (λ i. crossing (region F i) (region F j))) (regionCount F) k lk
       (some-at (λ i. crossing (region F i) (region F k)) k i l (later-crossing i k l lk a b))
-
-last-below : (i n : ℕ) → i < n → i ≤ n - 1
-last-below i n l = omega arith
-
--- what is below k + 1 is k or below k
-below-next : {j k : ℕ} → j < k + 1 → (j ≡ k) ⊎ (j < k)
-below-next h = eq-or-lt-of-le (omega arith)
 
 -- The climb for the k-th region has come to the number c: every region before the k-th one that ends at its first leaf
 -- or later is the one of that number or around it.

@@ -9,7 +9,7 @@ use lib.ListN.{length, getD, take, drop, length-append, length-drop, take-append
 use lib.Seq.{ext-getD, getD-append-add, getD-drop, take-append-seam}
 use Rattle.reader.specs.Lists.{tabulate, sum}
 use Rattle.reader.specs.Bytes.{IsBytes, numberAt, bytesOf}
-use Rattle.reader.specs.Family.{Region, Family, leaves, regionCount, region, mark, lengthAt, regionAt, familyOf, regionFields, fields, fileOf}
+use Rattle.reader.specs.Family.{Region, Family, noRegion, leaves, regionCount, region, mark, totalLength, lengthAt, regionAt, familyOf, regionFields, fields, fileOf}
 use Rattle.reader.specs.Causes.{Accepted}
 use Rattle.reader.specs.WellFormed.{WellFormed}
 use Rattle.reader.proofs.Lists.{length-tabulate, getD-tabulate}
@@ -20,7 +20,7 @@ use Rattle.reader.proofs.Accepting.{HeaderClear, FamilyClear, accepted-
 
 -- Numbers in a row, as bytes.
 
-length-bytes : (ns : List ℕ) → length (bytesOf ns) ≡ 2 * length ns
+pub length-bytes : (ns : List ℕ) → length (bytesOf ns) ≡ 2 * length ns
 unfolding bytesOf
 length-bytes [] = refl
 length-bytes (n ∷ ns) = omega (arith, length-bytes ns)
@@ -73,9 +73,6 @@ unfolding regionFields
 region-fields-length [] = refl
 region-fields-length (r ∷ rs) = omega (arith, region-fields-length rs)
 
-abbrev noRegion : Region
-noRegion = record { first = 0; last = 0; z = 0 }
-
 triple-suc : (k : ℕ) → 3 * suc k ≡ suc (suc (suc (3 * k)))
 triple-suc k = omega arith
 
@@ -119,7 +116,7 @@ module _ (F : Family) where
   fields-length =
       omega (arith, length-append (F .lengths) (regionFields (F .regions)), region-fields-length (F .regions))
 
-  pub file-length : length (fileOf F) ≡ 16 + 2 * leaves F + 6 * regionCount F
+  pub file-length : length (fileOf F) ≡ totalLength (leaves F) (regionCount F)
   unfolding fileOf mark
   file-length = omega (arith, length-append mark (bytesOf (fields F)), length-bytes (fields F), fields-length)
 
@@ -157,7 +154,7 @@ module _ (F : Family) (w : WellFormed F) where
   read-laid-down =
       let n = read-leaves in
       let k = read-regions in
-      let small : 16 + 2 * leaves F + 6 * regionCount F < 65536 = omega (arith, w .peptides-most, w .leaves-most, w .regions-most) in
+      let small : totalLength (leaves F) (regionCount F) < 65536 = omega (arith, w .peptides-most, w .leaves-most, w .regions-most) in
       record {
         lengths = field-read F 3 10 refl (omega arith);
         regions = field-read F 4 12 refl (omega arith) ∙ omega arith;

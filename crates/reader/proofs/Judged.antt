@@ -4,20 +4,21 @@ use Prim.Native.Nat.{ℕ, zero, suc, _+_, _*_, _-_, _<_, _≤_}
 use native.Mathlib.Omega.{arith}
 use mathlib.Core.Bool.{Bool, true, false, not, cond, _&&_, _||_}
 use mathlib.Core.List.{List}
-use mathlib.Core.Path.{_≡_, refl, ap, _∙_}
+use mathlib.Core.Path.{_≡_, refl}
 use mathlib.Core.Logic.{_⊎_, inl, inr, ⊎-elim}
 use lib.ListN.{length, getD, take}
 use lib.Dec.{leb, ltb, eqb}
 use borrow.Author.Tests.{ltb-true, ltb-false, leb-true, leb-false, eqb-true, eqb-false, lt-ltb, le-ltb, eq-eqb, ne-eqb, not-false}
 use Rattle.reader.specs.Lists.{sum, sameList, someBelow}
 use Rattle.reader.specs.Bytes.{numberAt}
-use Rattle.reader.specs.Family.{Region, Family, leaves, regionCount, region, regionAt, lengthAt, familyOf, mark}
+use Rattle.reader.specs.Family.{Region, Family, leaves, regionCount, region, familyOf, mark, regionsOffset, totalLength}
 use Rattle.reader.specs.Nesting.{before}
 use Rattle.reader.specs.Causes.{cause1, cause2, cause3, cause4, cause5, cause6, cause7, cause8, misplaced, firstCause, headerCauses}
+use Rattle.reader.specs.InPlace.{emptyLeaf}
 use Rattle.reader.proofs.Bools.{test, refuted, and-l, and-r, and-both, or-l, or-r, or-either, or-neither, or-fails-l, or-fails-r, not-fails, not-passes}
-use Rattle.reader.proofs.Below.{none-at, none-below, some-same}
+use Rattle.reader.proofs.Below.{none-at, none-below}
 use Rattle.reader.proofs.Lists.{same-equal, same-refl}
-use Rattle.reader.proofs.Parsed.{peptides-read, leaves-read, regions-read, length-read, region-read}
+use Rattle.reader.proofs.Parsed.{leaves-read, regions-read}
 
 -- Tests on numbers, as facts.
 
@@ -76,9 +77,9 @@ module _ (F : Family) where
 -- the offsets and the length as laid down
 pub record LaidDown (s : List ℕ) : Type 0 where
   pub lengths : numberAt s 10 ≡ 16
-  pub regions : numberAt s 12 ≡ 16 + 2 * numberAt s 6
-  pub total : numberAt s 14 ≡ 16 + 2 * numberAt s 6 + 6 * numberAt s 8
-  pub whole : length s ≡ 16 + 2 * numberAt s 6 + 6 * numberAt s 8
+  pub regions : numberAt s 12 ≡ regionsOffset (numberAt s 6)
+  pub total : numberAt s 14 ≡ totalLength (numberAt s 6) (numberAt s 8)
+  pub whole : length s ≡ totalLength (numberAt s 6) (numberAt s 8)
 
 module _ (s : List ℕ) where
   pub laid-down : cause5 s ≡ false → LaidDown s
@@ -87,16 +88,16 @@ module _ (s : List ℕ) where
       let N : ℕ = leaves (familyOf s) in
       let K : ℕ = regionCount (familyOf s) in
       let a : Bool = not (eqb (numberAt s 10) 16) in
-      let b : Bool = not (eqb (numberAt s 12) (16 + 2 * N)) in
-      let c : Bool = not (eqb (numberAt s 14) (16 + 2 * N + 6 * K)) in
+      let b : Bool = not (eqb (numberAt s 12) (regionsOffset N)) in
+      let c : Bool = not (eqb (numberAt s 14) (totalLength N K)) in
       let d : Bool = not (eqb (length s) (numberAt s 14)) in
       let abc : (a || b || c) ≡ false = or-fails-l (a || b || c) d h in
       let ab : (a || b) ≡ false = or-fails-l (a || b) c abc in
       let n = leaves-read s in
       let k = regions-read s in
       let o = eq-if-same (numberAt s 10) 16 (or-fails-l a b ab) in
-      let r = eq-if-same (numberAt s 12) (16 + 2 * N) (or-fails-r a b ab) in
-      let t = eq-if-same (numberAt s 14) (16 + 2 * N + 6 * K) (or-fails-r (a || b) c abc) in
+      let r = eq-if-same (numberAt s 12) (regionsOffset N) (or-fails-r a b ab) in
+      let t = eq-if-same (numberAt s 14) (totalLength N K) (or-fails-r (a || b) c abc) in
       let w = eq-if-same (length s) (numberAt s 14) (or-fails-r (a || b || c) d h) in
       record { lengths = o; regions = omega arith; total = omega arith; whole = omega arith }
 
@@ -109,14 +110,14 @@ module _ (s : List ℕ) where
       let k = regions-read s in
       or-neither _ _
       (or-neither _ _
-      (or-neither _ _ (same-if-eq (numberAt s 10) 16 (l .lengths)) (same-if-eq (numberAt s 12) (16 + 2 * N) (omega arith)))
-      (same-if-eq (numberAt s 14) (16 + 2 * N + 6 * K) (omega arith)))
+      (or-neither _ _ (same-if-eq (numberAt s 10) 16 (l .lengths)) (same-if-eq (numberAt s 12) (regionsOffset N) (omega arith)))
+      (same-if-eq (numberAt s 14) (totalLength N K) (omega arith)))
       (same-if-eq (length s) (numberAt s 14) (omega arith))
 
   -- the last test, where the others have failed
   pub length-laid-down :
-      numberAt s 10 ≡ 16 → numberAt s 12 ≡ 16 + 2 * numberAt s 6 → numberAt s 14 ≡ 16 + 2 * numberAt s 6 + 6 * numberAt s 8
-      → cause5 s ≡ not (eqb (length s) (16 + 2 * numberAt s 6 + 6 * numberAt s 8))
+      numberAt s 10 ≡ 16 → numberAt s 12 ≡ regionsOffset (numberAt s 6) → numberAt s 14 ≡ totalLength (numberAt s 6) (numberAt s 8)
+      → cause5 s ≡ not (eqb (length s) (totalLength (numberAt s 6) (numberAt s 8)))
   unfolding cause5
   length-laid-down o r t =
       rw (leaves-read s, regions-read s, same-if-eq (numberAt s 10) 16 o, same-if-eq (numberAt s 12) _ r, same-if-eq (numberAt s 14) _ t, t)
@@ -203,6 +204,15 @@ not-before-last r q e =
     (test (leb (r .last) (q .last)))
 
 module _ (F : Family) where
+  -- cause 6 by its two tests in turn
+  pub empty-refused : someBelow (leaves F) (emptyLeaf F) ≡ true → cause6 F ≡ true
+  unfolding cause6 emptyLeaf
+  empty-refused h = or-l _ _ h
+
+  pub sum-tested : someBelow (leaves F) (emptyLeaf F) ≡ false → cause6 F ≡ not (eqb (sum (F .lengths)) (F .peptides))
+  unfolding cause6 emptyLeaf
+  sum-tested h = rw h
+
   pub regions-placed : cause7 F ≡ false → (k : ℕ) → k < regionCount F → OnLeaves (leaves F) (region F k)
   unfolding cause7
   regions-placed h k l = on-leaves (leaves F) (region F k) (none-at (λ k. misplaced (leaves F) (region F k)) (regionCount F) k h l)
@@ -223,34 +233,6 @@ module _ (F : Family) where
   from-regions-rise h =
       none-below (λ k. not (before (region F k) (region F (k + 1)))) (regionCount F - 1)
       (λ k l. not-fails (before (region F k) (region F (k + 1))) (from-before (region F k) (region F (k + 1)) (h k (omega arith))))
-
--- The causes 6 to 8 at the bytes.
-
-module _ (s : List ℕ) where
-  pub lengths-at-bytes :
-      cause6 (familyOf s)
-      ≡ someBelow (numberAt s 6) (λ j. eqb (lengthAt s j) 0) || not (eqb (sum (familyOf s .lengths)) (numberAt s 4))
-  unfolding cause6
-  lengths-at-bytes =
-      rw (leaves-read s, some-same (λ j. eqb (getD (familyOf s .lengths) j 0) 0) (λ j. eqb (lengthAt s j) 0) (numberAt s 6) (λ j l. rw (length-read s j l)), peptides-read s)
-
-  -- the last test, where no length is 0
-  pub sum-at-bytes :
-      someBelow (numberAt s 6) (λ j. eqb (lengthAt s j) 0) ≡ false → cause6 (familyOf s) ≡ not (eqb (sum (familyOf s .lengths)) (numberAt s 4))
-  sum-at-bytes h = lengths-at-bytes ∙ ap (λ (b : Bool). b || not (eqb (sum (familyOf s .lengths)) (numberAt s 4))) h
-
-  pub placed-at-bytes : cause7 (familyOf s) ≡ someBelow (numberAt s 8) (λ k. misplaced (numberAt s 6) (regionAt s k))
-  unfolding cause7
-  placed-at-bytes =
-      rw (regions-read s, leaves-read s)
-      (some-same (λ k. misplaced (numberAt s 6) (region (familyOf s) k)) (λ k. misplaced (numberAt s 6) (regionAt s k)) (numberAt s 8) (λ k l. rw (region-read s k l)))
-
-  pub rise-at-bytes : cause8 (familyOf s) ≡ someBelow (numberAt s 8 - 1) (λ k. not (before (regionAt s k) (regionAt s (k + 1))))
-  unfolding cause8
-  rise-at-bytes =
-      rw (regions-read s)
-      (some-same (λ k. not (before (region (familyOf s) k) (region (familyOf s) (k + 1)))) (λ k. not (before (regionAt s k) (regionAt s (k + 1)))) (numberAt s 8 - 1)
-      (λ k l. rw (region-read s k (omega arith), region-read s (k + 1) (omega arith))))
 
 -- The first cause of the header that holds.
 

@@ -3,11 +3,15 @@ use Prim.Native.Nat.{ℕ, zero, suc, _+_, _*_, _<_, _≤_}
 use native.Mathlib.Omega.{arith}
 use mathlib.Core.Path.{_≡_, refl, _∙_, ap}
 use mathlib.Core.List.{List, _∷_}
-use lib.ListN.{getD, List·getD-eq-default}
+use mathlib.Core.Logic.{⊎-elim}
+use lib.ListN.{length, getD, List·getD-eq-default}
+use lib.Dec.{ltb}
+use borrow.Author.Tests.{ltb-true, ltb-false}
 use Rattle.reader.specs.Bytes.{IsBytes, numberAt}
-use Rattle.reader.specs.Family.{Region, Family, leaves, regionCount, region, leafLength, lengthAt, regionAt, familyOf}
+use Rattle.reader.specs.Family.{Region, Family, leaves, regionCount, noRegion, region, regionsOffset, leafLength, lengthAt, regionAt, familyOf}
 use Rattle.reader.specs.declared.family.Region as struct
 use Rattle.reader.specs.Calls.{held}
+use Rattle.reader.proofs.Bools.{test}
 use Rattle.reader.proofs.Lists.{length-tabulate, getD-tabulate}
 
 module _ (s : List ℕ) where
@@ -35,9 +39,31 @@ module _ (s : List ℕ) where
   unfolding familyOf region
   region-read k h = getD-tabulate (numberAt s 8) (regionAt s) _ k h
 
-  pub region-past : (k : ℕ) → numberAt s 8 ≤ k → region (familyOf s) k ≡ record { first = 0; last = 0; z = 0 }
+  pub region-past : (k : ℕ) → numberAt s 8 ≤ k → region (familyOf s) k ≡ noRegion
   unfolding region
   region-past k h = List·getD-eq-default (familyOf s .regions) _ (omega (arith, regions-read))
+
+-- What lies past the end counts as 0.
+pub byte-past : (s : List ℕ) (i : ℕ) → length s ≤ i → getD s i 0 ≡ 0
+byte-past s i l = List·getD-eq-default s 0 {n = i} l
+
+pub number-past : (s : List ℕ) (i : ℕ) → length s ≤ i → numberAt s i ≡ 0
+unfolding numberAt
+number-past s i l = omega (arith, byte-past s i l, byte-past s (i + 1) (omega arith))
+
+past-at : (s : List ℕ) → length s ≤ 16 → (k : ℕ) → regionAt s k ≡ noRegion
+unfolding regionAt
+past-at s l k =
+    let o : ℕ = 16 + 2 * numberAt s 6 + 6 * k in
+    rw (number-past s o (omega arith), number-past s (o + 2) (omega arith), number-past s (o + 4) (omega arith))
+
+-- a file that ends with the header or in it has only regions of zeros
+pub region-none : (s : List ℕ) → length s ≤ 16 → (k : ℕ) → region (familyOf s) k ≡ noRegion
+region-none s l k =
+    ⊎-elim
+    (λ t. region-read s k (ltb-true k (numberAt s 8) t) ∙ past-at s l k)
+    (λ f. region-past s k (ltb-false k (numberAt s 8) f))
+    (test (ltb k (numberAt s 8)))
 
 pub length-past : (F : Family) (j : ℕ) → leaves F < j → leafLength F j ≡ 0
 unfolding leafLength
@@ -56,6 +82,13 @@ pub length-at : (s : List ℕ) (j : ℕ) → (j ≡ 0 → ⊥) → j ≤ numberA
 unfolding lengthAt
 length-at s zero h l = absurd (h refl)
 length-at s (suc j) h l = length-leaf (familyOf s) j ∙ length-read s j l ∙ ap (numberAt s) (omega arith)
+
+-- the three numbers of the k-th region, in a struct
+pub region-held :
+    (s : List ℕ) (k o : ℕ) (r : struct.Region) → o ≡ regionsOffset (numberAt s 6) + 6 * k
+    → r .first .0 ≡ numberAt s o → r .last .0 ≡ numberAt s (o + 2) → r .z ≡ numberAt s (o + 4) → held r ≡ regionAt s k
+unfolding held regionAt
+region-held s k o r e a b z = rw (a, b, z, e)
 
 -- the fields of a struct that holds a region
 module _ (r : struct.Region) (q : Region) (h : held r ≡ q) where

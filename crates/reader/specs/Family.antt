@@ -26,9 +26,12 @@ leaves F = length (F .lengths)
 abbrev pub regionCount : Family → ℕ
 regionCount F = length (F .regions)
 
+abbrev pub noRegion : Region
+noRegion = record { first = 0; last = 0; z = 0 }
+
 -- the k-th region, counted from 0
 unfoldable pub region : Family → ℕ → Region
-region F k = getD (F .regions) k (record { first = 0; last = 0; z = 0 })
+region F k = getD (F .regions) k noRegion
 
 -- the length of leaf j, for j from 1 to N; 0 for any other number
 unfoldable pub leafLength : Family → ℕ → ℕ
@@ -56,10 +59,10 @@ abbrev pub lengthsOffset : ℕ
 lengthsOffset = 16
 
 abbrev pub regionsOffset : ℕ → ℕ
-regionsOffset n = 16 + 2 * n
+regionsOffset n = lengthsOffset + 2 * n
 
 abbrev pub totalLength : ℕ → ℕ → ℕ
-totalLength n k = 16 + 2 * n + 6 * k
+totalLength n k = regionsOffset n + 6 * k
 
 -- the length of the j-th leaf, and the k-th region, counted from 0
 unfoldable pub lengthAt : List ℕ → ℕ → ℕ

@@ -3,17 +3,20 @@ use crate::bytes::number_at;
 use crate::bytes::number_within;
 use crate::bytes::same_bytes;
 use crate::family::Region;
-use crate::family::region_at;
+use crate::family::leaf_count;
+use crate::family::peptide_count;
+use crate::family::region_count;
+use crate::family::region_of;
 use crate::family::region_within;
 ghost use mathlib.Core.Path.{_≡_};
 ghost use mathlib.Core.Bool.{not, _||_};
-ghost use Prim.Native.Nat.{_<_};
+ghost use Prim.Native.Nat.{_+_, _<_, _≤_, min};
 ghost use lib.Dec.{eqb};
-ghost use Rattle.reader.specs.Bytes.{numberAt};
-ghost use Rattle.reader.specs.Family.{familyOf, regionAt};
+ghost use Rattle.reader.specs.Lists.{sum, someBelow};
+ghost use Rattle.reader.specs.Family.{familyOf, leaves, regionCount, region};
 ghost use Rattle.reader.specs.Nesting.{before};
 ghost use Rattle.reader.specs.Causes.{cause1, cause5, cause6, cause7, cause8, misplaced, firstCause, headerCauses};
-ghost use Rattle.reader.specs.InPlace.{Whole};
+ghost use Rattle.reader.specs.InPlace.{Whole, emptyLeaf};
 ghost use Rattle.reader.specs.Calls.{held};
 
 fn lacks_mark(file: &[u8]) -> bool
@@ -78,25 +81,76 @@ fn empty_so_far(before: bool, length: u16) -> bool
     if before { true } else { length == 0 }
 }
 
-// A leaf length 0, or their sum not m. The loop goes to the end in any case: several lengths are then added at once.
+// Whether one of the leaves from one place to another, counted from 0, is empty. The loop goes to the end in any case:
+// several lengths are then compared at once.
+fn some_empty(file: &[u8], from: usize, to: usize) -> bool
+    requires { ⌜ Whole (now file) ⌝ }
+    requires { ⌜ from ≤ to ⌝ }
+    requires { ⌜ to ≤ leaves (familyOf (now file)) ⌝ }
+    ensures { λ r. ⌜ someBelow to (emptyLeaf (familyOf (now (file .entry)))) ≡ (someBelow from (emptyLeaf (familyOf (now (file .entry)))) || r) ⌝ }
+{
+    let mut empty = false;
+    let mut j = from;
+    while j < to {
+        empty = empty_so_far(empty, number_within(file, 16 + 2 * j));
+        j += 1;
+    }
+    empty
+}
+
+// Where 64 leaves end that begin at a place, or the leaves.
+fn block_end(from: usize, leaves: usize) -> usize
+    requires { ⌜ from ≤ leaves ⌝ }
+    ensures { λ r. ⌜ r ≡ min (from + 64) leaves ⌝ }
+{
+    if leaves - from < 64 {
+        leaves
+    } else {
+        from + 64
+    }
+}
+
+// Whether a leaf is empty: 64 leaves at a time, so that a file of empty leaves is refused at once.
+fn has_empty_leaf(file: &[u8]) -> bool
+    requires { ⌜ Whole (now file) ⌝ }
+    ensures { λ r. ⌜ r ≡ someBelow (leaves (familyOf (now (file .entry)))) (emptyLeaf (familyOf (now (file .entry)))) ⌝ }
+{
+    let leaves = leaf_count(file) as usize;
+    let mut j = 0;
+    while j < leaves {
+        let end = block_end(j, leaves);
+        if some_empty(file, j, end) {
+            return true;
+        }
+        j = end;
+    }
+    false
+}
+
+// The lengths of all leaves, added up. The loop has no way out: several lengths are then added at once.
+fn added_lengths(file: &[u8]) -> u32
+    requires { ⌜ Whole (now file) ⌝ }
+    ensures { λ r. ⌜ r ≡ sum (familyOf (now (file .entry)) .lengths) ⌝ }
+{
+    let leaves = leaf_count(file) as usize;
+    let mut sum: u32 = 0;
+    let mut j = 0;
+    while j < leaves {
+        sum += number_within(file, 16 + 2 * j) as u32;
+        j += 1;
+    }
+    sum
+}
+
+// A leaf length 0, or their sum not m.
 pub(crate) fn bad_lengths(file: &[u8]) -> bool
     requires { ⌜ Whole (now file) ⌝ }
     ensures { λ r. ⌜ r ≡ cause6 (familyOf (now (file .entry))) ⌝ }
 {
-    let leaves = number_at(file, 6) as usize;
-    let mut sum: usize = 0;
-    let mut empty = false;
-    let mut j = 0;
-    while j < leaves {
-        let length = number_within(file, 16 + 2 * j);
-        empty = empty_so_far(empty, length);
-        sum += length as usize;
-        j += 1;
-    }
-    if empty {
+    if has_empty_leaf(file) {
         return true;
     }
-    sum != number_at(file, 4) as usize
+    added_lengths(file) != peptide_count(file) as u32
 }
 
 // First leaf 0, last below first, or last over N, of some region.
@@ -104,8 +158,8 @@ pub(crate) fn misplaced_region(file: &[u8]) -> bool
     requires { ⌜ Whole (now file) ⌝ }
     ensures { λ r. ⌜ r ≡ cause7 (familyOf (now (file .entry))) ⌝ }
 {
-    let leaves = number_at(file, 6);
-    let regions = number_at(file, 8);
+    let leaves = leaf_count(file);
+    let regions = region_count(file);
     let mut k = 0;
     while k < regions {
         if misplaced_at(file, leaves, k) {
@@ -118,8 +172,8 @@ pub(crate) fn misplaced_region(file: &[u8]) -> bool
 
 fn misplaced_at(file: &[u8], leaves: u16, k: u16) -> bool
     requires { ⌜ Whole (now file) ⌝ }
-    requires { ⌜ k < numberAt (now file) 8 ⌝ }
-    ensures { λ r. ⌜ r ≡ misplaced leaves (regionAt (now (file .entry)) k) ⌝ }
+    requires { ⌜ k < regionCount (familyOf (now file)) ⌝ }
+    ensures { λ r. ⌜ r ≡ misplaced leaves (region (familyOf (now (file .entry))) k) ⌝ }
 {
     let r = region_within(file, k);
     let first = r.first.0;
@@ -138,8 +192,8 @@ pub(crate) fn misordered_region(file: &[u8]) -> bool
     requires { ⌜ Whole (now file) ⌝ }
     ensures { λ r. ⌜ r ≡ cause8 (familyOf (now (file .entry))) ⌝ }
 {
-    let regions = number_at(file, 8);
-    let mut r = region_at(file, 0);
+    let regions = region_count(file);
+    let mut r = region_of(file, 0);
     let mut k = 0;
     while k + 1 < regions {
         let q = region_within(file, k + 1);

@@ -2,10 +2,9 @@
 use crate::bytes::number_at;
 use crate::bytes::number_within;
 ghost use mathlib.Core.Path.{_≡_};
-ghost use Prim.Native.Nat.{_+_, _*_, _<_, _≤_};
+ghost use Prim.Native.Nat.{_+_, _<_, _≤_};
 ghost use lib.ListN.{length};
-ghost use Rattle.reader.specs.Bytes.{numberAt};
-ghost use Rattle.reader.specs.Family.{familyOf, leaves, regionCount, leafLength, leafOf, regionAt, region};
+ghost use Rattle.reader.specs.Family.{familyOf, leaves, regionCount, leafLength, leafOf, noRegion, region, totalLength};
 ghost use Rattle.reader.specs.InPlace.{eightLengths, FoundAfter};
 ghost use Rattle.reader.specs.Calls.{held};
 
@@ -51,7 +50,7 @@ pub fn leaf_length(file: &[u8], leaf: Leaf) -> u16
     if j == 0 {
         return 0;
     }
-    if number_at(file, 6) < j {
+    if leaf_count(file) < j {
         return 0;
     }
     number_at(file, 14 + 2 * (j as usize))
@@ -130,8 +129,9 @@ pub fn leaf_of(file: &[u8], peptide: Peptide) -> Leaf
 // The k-th region, where the file is known to have it: the check has compared the length with the header by then, and
 // spends its time here.
 pub(crate) fn region_within(file: &[u8], k: u16) -> Region
-    requires { ⌜ 16 + 2 * numberAt (now file) 6 + 6 * k + 6 ≤ length (now file) ⌝ }
-    ensures { λ r. ⌜ held r ≡ regionAt (now (file .entry)) k ⌝ }
+    requires { ⌜ k < regionCount (familyOf (now file)) ⌝ }
+    requires { ⌜ totalLength (leaves (familyOf (now file))) (k + 1) ≤ length (now file) ⌝ }
+    ensures { λ r. ⌜ held r ≡ region (familyOf (now (file .entry))) k ⌝ }
 {
     let at = 16 + 2 * (number_within(file, 6) as usize) + 6 * (k as usize);
     Region {
@@ -141,11 +141,28 @@ pub(crate) fn region_within(file: &[u8], k: u16) -> Region
     }
 }
 
-// The k-th region as the bytes have it; what lies past the end counts as 0.
-pub(crate) fn region_at(file: &[u8], k: u16) -> Region
-    ensures { λ r. ⌜ held r ≡ regionAt (now (file .entry)) k ⌝ }
+// All fields 0.
+fn no_region() -> Region
+    ensures { λ r. ⌜ held r ≡ noRegion ⌝ }
 {
-    let at = 16 + 2 * (number_at(file, 6) as usize) + 6 * (k as usize);
+    Region {
+        first: Leaf(0),
+        last: Leaf(0),
+        z: 0,
+    }
+}
+
+// The k-th region, counted from 0; all fields 0 where the file has no such region. What lies past the end counts as 0.
+pub fn region_of(file: &[u8], k: u16) -> Region
+    ensures { λ r. ⌜ held r ≡ region (familyOf (now (file .entry))) k ⌝ }
+{
+    if file.len() < 16 {
+        return no_region();
+    }
+    if number_within(file, 8) <= k {
+        return no_region();
+    }
+    let at = 16 + 2 * (number_within(file, 6) as usize) + 6 * (k as usize);
     if at + 6 <= file.len() {
         return region_within(file, k);
     }
@@ -153,20 +170,5 @@ pub(crate) fn region_at(file: &[u8], k: u16) -> Region
         first: Leaf(number_at(file, at)),
         last: Leaf(number_at(file, at + 2)),
         z: number_at(file, at + 4),
-    }
-}
-
-// The k-th region, counted from 0; all fields 0 where the file has no such region.
-pub fn region_of(file: &[u8], k: u16) -> Region
-    ensures { λ r. ⌜ held r ≡ region (familyOf (now (file .entry))) k ⌝ }
-{
-    if k < number_at(file, 8) {
-        region_at(file, k)
-    } else {
-        Region {
-            first: Leaf(0),
-            last: Leaf(0),
-            z: 0,
-        }
     }
 }

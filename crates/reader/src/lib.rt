@@ -5,11 +5,13 @@ mod causes;
 pub mod family;
 mod nesting;
 
-use bytes::number_at;
 use causes::bad_lengths;
 use causes::header_cause;
 use causes::misordered_region;
 use causes::misplaced_region;
+use family::leaf_count;
+use family::peptide_count;
+use family::region_count;
 use nesting::fill_parents;
 use nesting::too_deep;
 ghost use mathlib.Core.Path.{_≡_};
@@ -68,9 +70,9 @@ fn judge(file: &[u8], parents: &mut [u16]) -> Checked
         return Checked::Refused(family);
     }
     Checked::Family {
-        peptides: number_at(file, 4),
-        leaves: number_at(file, 6),
-        regions: number_at(file, 8),
+        peptides: peptide_count(file),
+        leaves: leaf_count(file),
+        regions: region_count(file),
     }
 }
 

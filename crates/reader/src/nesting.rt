@@ -1,7 +1,7 @@
 // How the regions nest: the parent of each region, and causes 9 and 10. In file order the innermost region around
 // a region is found by climbing along the parents from the region before it, so all climbs together are linear.
-use crate::bytes::number_at;
 use crate::family::Leaf;
+use crate::family::region_count;
 use crate::family::region_within;
 ghost use mathlib.Core.Path.{_≡_};
 ghost use Prim.Native.Nat.{ℕ, _<_, _≤_};
@@ -54,7 +54,7 @@ pub(crate) fn fill_parents(file: &[u8], parents: &mut [u16]) -> bool
     requires { ⌜ Whole (now file) ⌝ }
     ensures { λ r. ⌜ Filled (familyOf (now (file .entry))) (now (parents .exit)) r ⌝ }
 {
-    let regions = number_at(file, 8);
+    let regions = region_count(file);
     let mut k = 0;
     while k < regions {
         let r = region_within(file, k);
@@ -88,7 +88,7 @@ pub(crate) fn too_deep(file: &[u8], parents: &[u16]) -> bool
     requires { ⌜ Nested (familyOf (now file)) (now parents) ⌝ }
     ensures { λ r. ⌜ r ≡ cause10 (familyOf (now (file .entry))) ⌝ }
 {
-    let regions = number_at(file, 8) as usize;
+    let regions = region_count(file) as usize;
     let mut depths = [0u8; 8191];
     let mut k = 0;
     while k < regions {

@@ -12,6 +12,7 @@ use lib.Dec.{ltb}
 use borrow.Author.Tests.{ltb-true, ltb-false}
 use Rattle.reader.specs.Family.{Family, regionCount, region}
 use Rattle.reader.specs.WellFormed.{WellFormed}
+use Rattle.reader.proofs.Below.{below-next}
 use Rattle.bounds.specs.Ranges.{rangeOf, rangesOf, rangeAt}
 use Rattle.bounds.proofs.Members.{test, le-or-lt}
 use Rattle.bounds.proofs.Nesting.{has-facts, has-holds}
@@ -21,7 +22,6 @@ use Rattle.bounds.proofs.Walking.{of-region}
 use Rattle.reduction.specs.Reduction.{live}
 use Rattle.reduction.specs.Passes.{LiveMarked, LiveUpTo, Reached}
 use Rattle.reduction.proofs.Live.{dead-facts, dead-holds}
-use Rattle.reduction.proofs.OpenRegions.{below-next}
 
 -- The byte of one peptide more is written.
 

@@ -8,12 +8,8 @@ use native.Mathlib.Omega.{arith}
 use lib.ListN.{length, getD, take, set}
 use lib.Seq.{sets, length-take-le, take-suc}
 use Rattle.reader.specs.Bytes.{bytesOf}
+use Rattle.reader.proofs.Files.{length-bytes}
 use Rattle.reduction.specs.Writing.{withNumbers}
-
-pub bytes-length : (ns : List ℕ) → length (bytesOf ns) ≡ 2 * length ns
-unfolding bytesOf
-bytes-length [] = refl
-bytes-length (n ∷ ns) = omega (arith, bytes-length ns)
 
 pub bytes-join : (ns ms : List ℕ) → bytesOf (ns ++ ms) ≡ bytesOf ns ++ bytesOf ms
 unfolding bytesOf
@@ -33,7 +29,7 @@ module _ (out : List ℕ) (at : ℕ) where
   pub numbers-join : (ns ms : List ℕ) (next : ℕ) → next ≡ at + 2 * length ns → withNumbers (withNumbers out at ns) next ms ≡ withNumbers out at (ns ++ ms)
   unfolding withNumbers
   numbers-join ns ms next e =
-      sets-join out at (bytesOf ns) (bytesOf ms) next (omega (arith, e, bytes-length ns)) ∙ ap (sets out at) (sym (bytes-join ns ms))
+      sets-join out at (bytesOf ns) (bytesOf ms) next (omega (arith, e, length-bytes ns)) ∙ ap (sets out at) (sym (bytes-join ns ms))
 
   -- the first i numbers of a list, and the next one
   pub numbers-next : (ns : List ℕ) (i : ℕ) → i < length ns

@@ -12,16 +12,10 @@ use lib.Dec.{eqb}
 use borrow.Author.Tests.{eqb-true, eqb-false}
 use Rattle.reader.specs.Family.{Family, leaves, regionCount, region, peptidesUpTo}
 use Rattle.reader.specs.WellFormed.{WellFormed, IsParent}
+use Rattle.reader.proofs.Below.{below-next, last-below}
 use Rattle.bounds.specs.Ranges.{rangeOf, rangeAt}
 use Rattle.bounds.proofs.Members.{test, le-or-lt}
 use Rattle.reduction.specs.Passes.{Lowered, Begun, Open, Ends}
-
--- what is below k + 1 is k or below k
-pub below-next : {j k : ℕ} → j < k + 1 → (j ≡ k) ⊎ (j < k)
-below-next h = eq-or-lt-of-le (omega arith)
-
-last-below : (i k : ℕ) → i < k → i ≤ k - 1
-last-below i k l = omega arith
 
 -- a fact for every number below k, and at k, after a store at k
 pub more-stored :

@@ -16,7 +16,7 @@ use Rattle.reader.specs.Causes.{Accepted}
 use Rattle.reader.specs.WellFormed.{WellFormed}
 use Rattle.reader.proofs.Below.{found, some-at}
 use Rattle.reader.proofs.Accepting.{well-formed}
-use Rattle.reader.proofs.Files.{file-length, field-read}
+use Rattle.reader.proofs.Files.{length-bytes, file-length, field-read}
 use Rattle.bounds.specs.Ranges.{Range, Peptides, card, some, rangesOf, In}
 use Rattle.bounds.proofs.Members.{in-at, place, some-in, some-found, both-ways}
 use Rattle.reduction.specs.Reduction.{rising, endsLeaf, leafLengths, regionOf, writtenFamily, reducedFamily, reducedFile}
@@ -28,7 +28,7 @@ use Rattle.reduction.proofs.Leaves.{leaves-count}
 use Rattle.reduction.proofs.Accepted.{reduced-wellformed}
 use Rattle.reduction.proofs.OneFile.{reduced-file-fits}
 use Rattle.reduction.proofs.ListFronts.{begins-at, begins-room, map-at}
-use Rattle.reduction.proofs.NumberRows.{bytes-length, bytes-join, sets-join}
+use Rattle.reduction.proofs.NumberRows.{bytes-join, sets-join}
 use Rattle.reduction.proofs.LeafEnds.{marked-set, region-numbers-next}
 
 -- A list of numbers that begins with a number of each range.
@@ -125,9 +125,9 @@ joined : (out h l r : List ℕ) (a : ℕ) → length h ≡ 6 → a ≡ 16 + 2 * 
 unfolding withNumbers
 joined out h l r a six e =
     let start : List ℕ = mark ++ bytesOf h in
-    let s : length start ≡ 16 = unfold mark in omega (arith, bytes-length h) in
+    let s : length start ≡ 16 = unfold mark in omega (arith, length-bytes h) in
     ap (λ (o : List ℕ). sets o a (bytesOf r)) (sets-join out 0 start (bytesOf l) 16 (omega arith))
-    ∙ sets-join out 0 (start ++ bytesOf l) (bytesOf r) a (omega (arith, length-append start (bytesOf l), bytes-length l))
+    ∙ sets-join out 0 (start ++ bytesOf l) (bytesOf r) a (omega (arith, length-append start (bytesOf l), length-bytes l))
     ∙ ap (sets out 0) parts
   where
     parts : ((mark ++ bytesOf h) ++ bytesOf l) ++ bytesOf r ≡ mark ++ bytesOf (h ++ (l ++ r))

@@ -1,7 +1,6 @@
 -- The first cause of the header, else that of the family; with neither the file is accepted.
 use mathlib.Core.Path.{sym, _∙_}
 use denote.Ref.{now}
-use Rattle.reader.proofs.Parsed.{peptides-read, leaves-read, regions-read}
 use Rattle.reader.proofs.Accepting.{file-header, file-family, reports-refused, reports-accepted}
 use borrow.Author.Needs.{needs}
 use Rattle.reader.proofs.judge.Statement.{statement}
@@ -32,14 +31,14 @@ returns-2 c =
     let number = c .before .before .before .family-cause .ensures .tested ∙ sym first in
     record { reported = reports-refused s _ number (c .if2 .taken); parents = λ a. absurd (c .if2 .taken (number ∙ a)) }
 
-number-at-requires : tie.Need-number-at-requires
-number-at-requires c κs = search needs
+peptide-count-requires : tie.Need-peptide-count-requires
+peptide-count-requires c κs = search needs
 
-number-at-requires-2 : tie.Need-number-at-requires-2
-number-at-requires-2 c κs = search needs
+leaf-count-requires : tie.Need-leaf-count-requires
+leaf-count-requires c κs = search needs
 
-number-at-requires-3 : tie.Need-number-at-requires-3
-number-at-requires-3 c κs = search needs
+region-count-requires : tie.Need-region-count-requires
+region-count-requires c κs = search needs
 
 same-length-2 : tie.Need-same-length-2
 same-length-2 c = search needs
@@ -51,8 +50,7 @@ returns-3 c =
     let accepted = first ∙ sym (c .before .before .before .before .before .before .family-cause .ensures .tested) ∙ c .before .before .before .if2 .left in
     record {
       reported =
-          reports-accepted s _ _ _ accepted (c .before .before .number-at .ensures ∙ sym (peptides-read s)) (c .before .number-at2 .ensures ∙ sym (leaves-read s))
-          (c .number-at3 .ensures ∙ sym (regions-read s));
+          reports-accepted s _ _ _ accepted (c .before .before .peptide-count .ensures) (c .before .leaf-count .ensures) (c .region-count .ensures);
       parents = λ a. c .before .before .before .before .before .before .family-cause .ensures .parents (c .before .before .before .if2 .left);
     }
 
@@ -65,8 +63,8 @@ judge-spec =
     family-cause-requires
     same-length
     returns-2
-    number-at-requires
-    number-at-requires-2
-    number-at-requires-3
+    peptide-count-requires
+    leaf-count-requires
+    region-count-requires
     same-length-2
     returns-3)

@@ -1,24 +1,16 @@
 -- Past the end both bytes are 0, and after the last byte the high one is.
 use native.Mathlib.Omega.{arith}
-use Prim.Native.Nat.{ℕ, _+_, _≤_}
-use mathlib.Core.List.{List}
-use mathlib.Core.Path.{_≡_}
-use lib.ListN.{length, getD, List·getD-eq-default}
+use Prim.Native.Nat.{_+_}
+use mathlib.Core.Path.{sym}
 use denote.Ref.{now}
 use Rattle.reader.specs.Bytes.{numberAt}
+use Rattle.reader.proofs.Parsed.{byte-past, number-past}
 use borrow.Author.Needs.{needs}
 use Rattle.reader.proofs.bytes.number_at.Statement.{statement}
 use Rattle.reader.proofs.bytes.number_at.Tie as tie
 
-past : (s : List ℕ) (i : ℕ) → length s ≤ i → getD s i 0 ≡ 0
-past s i l = List·getD-eq-default s 0 {n = i} l
-
 returns : tie.Need-returns
-unfolding numberAt
-returns c =
-    let s = now (c .before .before .args .s) in
-    let at = c .before .before .args .at in
-    omega (arith, past s at (omega arith), past s (at + 1) (omega arith))
+returns c = sym (number-past (now (c .before .before .args .s)) _ (omega arith))
 
 sub-if2 : tie.Need-sub-if2
 sub-if2 c = search needs
@@ -40,7 +32,7 @@ unfolding numberAt
 returns-3 c =
     let s = now (c .before .before .before .before .args .s) in
     let at = c .before .before .before .before .args .at in
-    omega (arith, past s (at + 1) (omega arith), c .byte-at .ensures)
+    omega (arith, byte-past s (at + 1) (omega arith), c .byte-at .ensures)
 
 pub number-at-spec : {M : Type 1} → statement M
 number-at-spec =

@@ -5,12 +5,11 @@ use mathlib.Core.Bool.{false, not}
 use mathlib.Core.Path.{_≡_, sym, ap₂, _∙_}
 use denote.Ref.{now}
 use Rattle.reader.specs.Lists.{someBelow}
-use Rattle.reader.specs.Bytes.{numberAt}
-use Rattle.reader.specs.Family.{Region, regionAt}
+use Rattle.reader.specs.Family.{Region, familyOf, regionCount, region}
 use Rattle.reader.specs.Nesting.{before}
+use Rattle.reader.specs.Causes.{cause8}
 use Rattle.reader.specs.Calls.{held}
 use Rattle.reader.proofs.Below.{none-below-zero, none-more, some-at}
-use Rattle.reader.proofs.Judged.{rise-at-bytes}
 use borrow.Author.Needs.{needs}
 use Rattle.reader.proofs.causes.misordered_region.Statement.{statement}
 use Rattle.reader.proofs.causes.misordered_region.Tie as tie
@@ -18,9 +17,9 @@ use Rattle.reader.proofs.causes.misordered_region.Tie as tie
 abbrev Inv-loop : tie.InvT-loop
 Inv-loop file regions r₀ k₀ r k =
     (k ≤ regions - 1)
-    × (regions ≡ numberAt file 8)
-    × (held r ≡ regionAt file k)
-    × (someBelow k (λ i. not (before (regionAt file i) (regionAt file (i + 1)))) ≡ false)
+    × (regions ≡ regionCount (familyOf file))
+    × (held r ≡ region (familyOf file) k)
+    × (someBelow k (λ i. not (before (region (familyOf file) i) (region (familyOf file) (i + 1)))) ≡ false)
 
 abbrev μ-loop : tie.MeasureT-loop
 μ-loop file regions r₀ k₀ r k = regions - k
@@ -29,19 +28,18 @@ abbrev μ-loop : tie.MeasureT-loop
 tested :
     (c : tie.After-not-before Inv-loop μ-loop)
     → c .not-before .result
-    ≡ not (before (regionAt (now (c .before .before .before .before .before .before .before .args .file)) (c .before .before .before .loop .k))
-    (regionAt (now (c .before .before .before .before .before .before .before .args .file)) (c .before .before .before .loop .k + 1)))
-tested c =
-    c .not-before .ensures ∙ ap₂ (λ (a b : Region). not (before a b)) (c .before .before .before .loop .inv .2) (c .before .region-within .ensures)
+    ≡ not (before (region (familyOf (now (c .before .before .before .before .before .before .before .args .file))) (c .before .before .before .loop .k))
+    (region (familyOf (now (c .before .before .before .before .before .before .before .args .file))) (c .before .before .before .loop .k + 1)))
+tested c = c .not-before .ensures ∙ ap₂ (λ (a b : Region). not (before a b)) (c .before .before .before .loop .inv .2) (c .before .region-within .ensures)
 
-number-at-requires : tie.Need-number-at-requires Inv-loop μ-loop
-number-at-requires c κs = search needs
+region-count-requires : tie.Need-region-count-requires Inv-loop μ-loop
+region-count-requires c κs = search needs
 
-region-at-requires : tie.Need-region-at-requires Inv-loop μ-loop
-region-at-requires c κs = search needs
+region-of-requires : tie.Need-region-of-requires Inv-loop μ-loop
+region-of-requires c κs = search needs
 
 loop-holds : tie.Need-loop-holds Inv-loop μ-loop
-loop-holds c = (omega arith, c .before .number-at .ensures, c .region-at .ensures, none-below-zero _)
+loop-holds c = (omega arith, c .before .region-count .ensures, c .region-of .ensures, none-below-zero _)
 
 add-loop : tie.Need-add-loop Inv-loop μ-loop
 add-loop c = search needs
@@ -50,15 +48,16 @@ add-region-within : tie.Need-add-region-within Inv-loop μ-loop
 add-region-within c = search needs
 
 region-within-requires : tie.Need-region-within-requires Inv-loop μ-loop
-region-within-requires c κs = search needs
+region-within-requires c κs = (omega arith, omega arith)
 
 not-before-requires : tie.Need-not-before-requires Inv-loop μ-loop
 not-before-requires c κs = search needs
 
 returns : tie.Need-returns Inv-loop μ-loop
+unfolding cause8
 returns c =
-    let s = now (c .before .before .before .before .before .before .before .before .args .file) in
-    sym (rise-at-bytes s ∙ some-at _ (numberAt s 8 - 1) (c .before .before .before .before .loop .k) (omega arith) (sym (tested (c .before)) ∙ c .if1 .taken))
+    let F = familyOf (now (c .before .before .before .before .before .before .before .before .args .file)) in
+    sym (some-at _ (regionCount F - 1) (c .before .before .before .before .loop .k) (omega arith) (sym (tested (c .before)) ∙ c .if1 .taken))
 
 add-k : tie.Need-add-k Inv-loop μ-loop
 add-k c = search needs
@@ -72,10 +71,10 @@ loop-again c =
     (omega arith, inv .1, c .before .before .region-within .ensures, none-more _ _ (inv .3) (sym (tested (c .before)) ∙ c .if1 .left))
 
 returns-2 : tie.Need-returns-2 Inv-loop μ-loop
+unfolding cause8
 returns-2 c =
-    let s = now (c .before .before .before .before .before .args .file) in
-    let end : c .before .loop .k ≡ numberAt s 8 - 1 = omega arith in
-    sym (rise-at-bytes s ∙ (rw end at (c .before .loop .inv .3)))
+    let end : c .before .loop .k ≡ regionCount (familyOf (now (c .before .before .before .before .before .args .file))) - 1 = omega arith in
+    sym (rw end at (c .before .loop .inv .3))
 
 pub misordered-region-spec : {M : Type 1} → statement M
 misordered-region-spec =
@@ -83,8 +82,8 @@ misordered-region-spec =
     (tie.spec
     Inv-loop
     μ-loop
-    number-at-requires
-    region-at-requires
+    region-count-requires
+    region-of-requires
     loop-holds
     add-loop
     add-region-within

@@ -1,10 +1,10 @@
 -- The climb keeps every region that reaches the first leaf of the k-th one; it falls, since a parent comes earlier.
 use Prim.Native.Nat.{_-_}
 use native.Mathlib.Omega.{arith}
-use mathlib.Core.Path.{_≡_, sym, subst, _∙_}
+use mathlib.Core.Path.{_≡_, subst}
 use denote.Ref.{now}
 use Rattle.reader.specs.Family.{familyOf, region}
-use Rattle.reader.proofs.Parsed.{regions-read, region-read, held-last}
+use Rattle.reader.proofs.Parsed.{held-last}
 use Rattle.reader.proofs.Climbing.{Climbable, climb-starts, climb-steps, climb-stops, climb-ends}
 use borrow.Author.Needs.{needs}
 use Rattle.reader.proofs.nesting.climb.Statement.{statement}
@@ -18,10 +18,7 @@ abbrev μ-loop : tie.MeasureT-loop
 
 -- the region that the loop looks at ends where its struct says
 last-read : (c : tie.After-region-within Inv-loop μ-loop) → c .region-within .result .last .0 ≡ region (familyOf (now (c .before .before .before .before .before .args .file))) (c .before .before .loop .number - 1) .last
-last-read c =
-    let s = now (c .before .before .before .before .before .args .file) in
-    let pre = c .before .before .before .before .before .pre .0 in
-    held-last _ _ (c .region-within .ensures ∙ sym (region-read s (c .before .before .loop .number - 1) (omega (arith, regions-read s, pre .here, c .before .before .loop .inv .0, c .before .loop-test))))
+last-read c = held-last _ _ (c .region-within .ensures)
 
 loop-holds : tie.Need-loop-holds Inv-loop μ-loop
 loop-holds c = let pre = c .before .before .pre .0 in climb-starts _ (pre .ordered) _ (pre .here) (pre .nested)
@@ -32,7 +29,7 @@ sub-region-within c = search needs
 region-within-requires : tie.Need-region-within-requires Inv-loop μ-loop
 region-within-requires c κs =
     let pre = c .before .before .before .before .pre in
-    omega (arith, regions-read (now (c .before .before .before .before .args .file)), pre .0 .here, pre .1 .1, c .before .loop .inv .0, c .loop-test)
+    (omega (arith, pre .0 .here, c .before .loop .inv .0, c .loop-test), omega (arith, pre .0 .here, pre .1 .1, c .before .loop .inv .0, c .loop-test))
 
 returns : tie.Need-returns Inv-loop μ-loop
 returns c =

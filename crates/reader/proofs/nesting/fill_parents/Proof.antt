@@ -4,12 +4,11 @@ use native.Mathlib.Omega.{arith}
 use mathlib.Core.Path.{_≡_, refl, sym, _∙_}
 use lib.ListN.{length, length-set}
 use denote.Ref.{now}
-use Rattle.reader.specs.Bytes.{numberAt}
 use Rattle.reader.specs.Family.{familyOf, region, regionCount}
 use Rattle.reader.specs.WellFormed.{NestedBelow, ParentsBelow}
 use Rattle.reader.specs.Climb.{endsBefore}
 use Rattle.reader.proofs.Bools.{clash}
-use Rattle.reader.proofs.Parsed.{regions-read, region-read, held-first, held-last}
+use Rattle.reader.proofs.Parsed.{held-first, held-last}
 use Rattle.reader.proofs.Climbing.{climbed-crosses, climbed-parent, climbed-nested, nested-more, parents-more, clear-if-nested}
 use borrow.Author.Needs.{needs}
 use Rattle.reader.proofs.nesting.fill_parents.Statement.{statement}
@@ -18,7 +17,7 @@ use Rattle.reader.proofs.nesting.fill_parents.Tie as tie
 abbrev Inv-loop : tie.InvT-loop
 Inv-loop file parents₀ regions k₀ parents k =
     (k ≤ regions)
-    × (regions ≡ numberAt file 8)
+    × (regions ≡ regionCount (familyOf file))
     × (length parents ≡ length parents₀)
     × NestedBelow (familyOf file) k
     × ParentsBelow (familyOf file) parents k
@@ -27,7 +26,7 @@ abbrev μ-loop : tie.MeasureT-loop
 μ-loop file parents₀ regions k₀ parents k = regions - k
 
 here : (c : tie.In-loop Inv-loop μ-loop) → c .before .loop .k < regionCount (familyOf (now (c .before .before .before .before .before .args .file)))
-here c = omega (arith, regions-read (now (c .before .before .before .before .before .args .file)), c .loop-test .taken, c .before .loop .inv .1)
+here c = omega (arith, c .loop-test .taken, c .before .loop .inv .1)
 
 -- the test of the loop's body speaks of the k-th region
 tested :
@@ -35,16 +34,16 @@ tested :
     → c .ends-before .result ≡ endsBefore (familyOf (now (c .before .before .before .before .before .before .before .before .before .before .before .args .file))) (c .before .climb .result) (region (familyOf (now (c .before .before .before .before .before .before .before .before .before .before .before .args .file))) (c .before .before .before .before .before .before .before .loop .k) .last)
 tested c =
     let s = now (c .before .before .before .before .before .before .before .before .before .before .before .args .file) in
-    rw (← (held-last _ _ (c .before .before .before .before .before .region-within .ensures ∙ sym (region-read s (c .before .before .before .before .before .before .before .loop .k) (omega (arith, c .before .before .before .before .before .before .loop-test .taken, c .before .before .before .before .before .before .before .loop .inv .1)))))) (c .ends-before .ensures)
+    rw (← (held-last _ _ (c .before .before .before .before .before .region-within .ensures))) (c .ends-before .ensures)
 
-number-at-requires : tie.Need-number-at-requires Inv-loop μ-loop
-number-at-requires c κs = search needs
+region-count-requires : tie.Need-region-count-requires Inv-loop μ-loop
+region-count-requires c κs = search needs
 
 loop-holds : tie.Need-loop-holds Inv-loop μ-loop
-loop-holds c = (omega arith, c .number-at .ensures, refl, λ i j l h. absurd (omega arith), λ i l. absurd (omega arith))
+loop-holds c = (omega arith, c .region-count .ensures, refl, λ i j l h. absurd (omega arith), λ i l. absurd (omega arith))
 
 region-within-requires : tie.Need-region-within-requires Inv-loop μ-loop
-region-within-requires c κs = search needs
+region-within-requires c κs = (here c, omega (arith, here c, c .before .before .before .before .before .pre .1 .1))
 
 climb-requires : tie.Need-climb-requires Inv-loop μ-loop
 climb-requires c κs =
@@ -53,7 +52,7 @@ climb-requires c κs =
     let inv = c .before .before .before .before .before .loop .inv in (
       record { ordered = pre .0; nested = inv .3; known = inv .4; here = here (c .before .before .before .before); room = omega (arith, pre .1 .0, inv .2) },
       (
-        held-first _ _ (c .before .before .before .region-within .ensures ∙ sym (region-read s (c .before .before .before .before .before .loop .k) (omega (arith, c .before .before .before .before .loop-test .taken, inv .1)))),
+        held-first _ _ (c .before .before .before .region-within .ensures),
         pre .1 .1,
       ),
     )
@@ -81,7 +80,7 @@ slice-write-parents : tie.Need-slice-write-parents Inv-loop μ-loop
 slice-write-parents c = omega (arith, here (c .before .before .before .before .before .before .before), c .before .before .before .before .before .before .before .before .before .before .before .before .pre .1 .0, c .before .before .before .before .before .before .before .before .loop .inv .2)
 
 add-k : tie.Need-add-k Inv-loop μ-loop
-add-k c = omega (arith, c .before .before .before .before .before .before .before .before .before .number-at .ok)
+add-k c = omega (arith, c .before .before .before .before .before .before .before .before .before .region-count .ok)
 
 loop-less : tie.Need-loop-less Inv-loop μ-loop
 loop-less c = search needs
@@ -105,7 +104,7 @@ returns-2 : tie.Need-returns-2 Inv-loop μ-loop
 returns-2 c =
     let s = now (c .before .before .before .before .before .args .file) in
     let inv = c .before .loop .inv in
-    let end : regionCount (familyOf s) ≡ c .before .loop .k = omega (arith, regions-read s, inv .0, inv .1, c .loop-test .left) in
+    let end : regionCount (familyOf s) ≡ c .before .loop .k = omega (arith, inv .0, inv .1, c .loop-test .left) in
     record {
       tested = sym (clear-if-nested (familyOf s) (c .before .before .before .before .before .pre .0) (λ i j l h. inv .3 i j l (omega (arith, end))));
       parents = λ f i l. inv .4 i (omega (arith, end));
@@ -117,7 +116,7 @@ fill-parents-spec =
     (tie.spec
     Inv-loop
     μ-loop
-    number-at-requires
+    region-count-requires
     loop-holds
     region-within-requires
     climb-requires

@@ -4,10 +4,8 @@ use native.Mathlib.Omega.{arith}
 use mathlib.Core.Path.{_≡_, sym, _∙_}
 use lib.ListN.{length, length-set}
 use denote.Ref.{now}
-use Rattle.reader.specs.Bytes.{numberAt}
 use Rattle.reader.specs.Family.{familyOf, regionCount}
 use Rattle.reader.specs.Nesting.{regionsAround}
-use Rattle.reader.proofs.Parsed.{regions-read}
 use Rattle.reader.proofs.Climbing.{Counted, counts-one-deeper, counted-more, too-deep, not-too-deep}
 use borrow.Author.Needs.{needs}
 use Rattle.reader.proofs.nesting.too_deep.Statement.{statement}
@@ -15,13 +13,13 @@ use Rattle.reader.proofs.nesting.too_deep.Tie as tie
 
 abbrev Inv-loop : tie.InvT-loop
 Inv-loop file parents regions depths₀ k₀ depths k =
-    (k ≤ regions) × (regions ≡ numberAt file 8) × (length depths ≡ 8191) × Counted (familyOf file) depths k
+    (k ≤ regions) × (regions ≡ regionCount (familyOf file)) × (length depths ≡ 8191) × Counted (familyOf file) depths k
 
 abbrev μ-loop : tie.MeasureT-loop
 μ-loop file parents regions depths₀ k₀ depths k = regions - k
 
 here : (c : tie.In-loop Inv-loop μ-loop) → c .before .loop .k < regionCount (familyOf (now (c .before .before .before .before .before .args .file)))
-here c = omega (arith, regions-read (now (c .before .before .before .before .before .args .file)), c .loop-test .taken, c .before .loop .inv .1)
+here c = omega (arith, c .loop-test .taken, c .before .loop .inv .1)
 
 -- what the loop's body counts is the number of regions around the k-th one
 depth-read : (c : tie.After-one-deeper Inv-loop μ-loop) → c .one-deeper .result ≡ regionsAround (familyOf (now (c .before .before .before .before .before .before .before .before .args .file))) (c .before .before .before .before .loop .k)
@@ -30,14 +28,14 @@ depth-read c =
     c .one-deeper .ensures
     ∙ counts-one-deeper _ (pre .ordered) (pre .nested) _ _ (here (c .before .before .before)) (c .before .before .before .before .loop .inv .3) _ (pre .known (c .before .before .before .before .loop .k) (here (c .before .before .before)))
 
-number-at-requires : tie.Need-number-at-requires Inv-loop μ-loop
-number-at-requires c κs = search needs
+region-count-requires : tie.Need-region-count-requires Inv-loop μ-loop
+region-count-requires c κs = search needs
 
 cast-regions : tie.Need-cast-regions Inv-loop μ-loop
 cast-regions c = search needs
 
 loop-holds : tie.Need-loop-holds Inv-loop μ-loop
-loop-holds c = (omega arith, c .number-at .ensures, search needs, record { depth = λ i l. absurd (omega arith); shallow = λ i l. absurd (omega arith) })
+loop-holds c = (omega arith, c .region-count .ensures, search needs, record { depth = λ i l. absurd (omega arith); shallow = λ i l. absurd (omega arith) })
 
 slice-aggregate-one-deeper : tie.Need-slice-aggregate-one-deeper Inv-loop μ-loop
 slice-aggregate-one-deeper c = sym (c .before .before .loop .inv .2)
@@ -84,7 +82,7 @@ returns-2 : tie.Need-returns-2 Inv-loop μ-loop
 returns-2 c =
     let s = now (c .before .before .before .before .before .args .file) in
     let inv = c .before .loop .inv in
-    sym (not-too-deep (familyOf s) (λ k l. inv .3 .shallow k (omega (arith, regions-read s, inv .0, inv .1, c .loop-test .left))))
+    sym (not-too-deep (familyOf s) (λ k l. inv .3 .shallow k (omega (arith, inv .0, inv .1, c .loop-test .left))))
 
 pub too-deep-spec : {M : Type 1} → statement M
 too-deep-spec =
@@ -92,7 +90,7 @@ too-deep-spec =
     (tie.spec
     Inv-loop
     μ-loop
-    number-at-requires
+    region-count-requires
     cast-regions
     loop-holds
     slice-aggregate-one-deeper
