@@ -73,7 +73,7 @@ fn is_crowded(parents: &[u16], spare: &[u16], inner: u16) -> bool
 {
     let mut number = inner;
     while number != 0 {
-        let k = (number - 1) as usize;
+        let k = (number as usize) - 1;
         if spare[k] == 0 {
             return true;
         }
@@ -89,7 +89,7 @@ fn take_mark(parents: &[u16], spare: &mut [u16], inner: u16)
 {
     let mut number = inner;
     while number != 0 {
-        let k = (number - 1) as usize;
+        let k = (number as usize) - 1;
         spare[k] = spare[k] - 1;
         number = parents[k];
     }

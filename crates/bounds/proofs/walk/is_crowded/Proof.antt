@@ -27,11 +27,11 @@ earlier c = c .before .before .pre .1 (c .before .loop .number - 1) (omega (arit
 loop-holds : tie.Need-loop-holds Inv-loop μ-loop
 loop-holds c = (omega arith, λ F leaf n h. (chain-starts F leaf _ h, room-starts F (now (c .args .spare)) leaf _ h))
 
-sub-k : tie.Need-sub-k Inv-loop μ-loop
-sub-k c = search needs
-
 cast-k : tie.Need-cast-k Inv-loop μ-loop
 cast-k c = search needs
+
+sub-k : tie.Need-sub-k Inv-loop μ-loop
+sub-k c = search needs
 
 mul-if1 : tie.Need-mul-if1 Inv-loop μ-loop
 mul-if1 c = search needs
@@ -74,8 +74,8 @@ is-crowded-spec =
     Inv-loop
     μ-loop
     loop-holds
-    sub-k
     cast-k
+    sub-k
     mul-if1
     shared-slice-read-if1
     returns

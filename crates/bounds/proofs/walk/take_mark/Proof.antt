@@ -43,11 +43,11 @@ here c =
 loop-holds : tie.Need-loop-holds Inv-loop μ-loop
 loop-holds c = (omega arith, refl, λ i l. refl, λ F leaf n h. (chain-starts F leaf _ h, less-starts F _ leaf _ h))
 
-sub-k : tie.Need-sub-k Inv-loop μ-loop
-sub-k c = search needs
-
 cast-k : tie.Need-cast-k Inv-loop μ-loop
 cast-k c = search needs
+
+sub-k : tie.Need-sub-k Inv-loop μ-loop
+sub-k c = search needs
 
 mul-spare : tie.Need-mul-spare Inv-loop μ-loop
 mul-spare c = search needs
@@ -102,8 +102,8 @@ take-mark-spec =
     Inv-loop
     μ-loop
     loop-holds
-    sub-k
     cast-k
+    sub-k
     mul-spare
     slice-read-spare
     sub-spare
