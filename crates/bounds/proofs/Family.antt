@@ -15,7 +15,7 @@ use Rattle.reader.specs.WellFormed.{WellFormed}
 use Rattle.reader.proofs.Parsed.{length-leaf}
 use Rattle.reader.proofs.Walk.{up-to-next}
 use Rattle.reader.proofs.Accepting.{well-formed}
-use Rattle.reader.specs.Family.{Region, Family, leaves, regionCount, region, leafLength, peptidesUpTo, familyOf}
+use Rattle.reader.specs.Family.{Region, Family, leaves, regionCount, noRegion, region, leafLength, peptidesUpTo, familyOf}
 use Rattle.bounds.specs.Ranges.{Range, rangeOf, rangesOf, In}
 use Rattle.bounds.proofs.Members.{in-at}
 use Rattle.bounds.proofs.Laminar.{Fit, isAround, isBefore, Proper, Laminar, laminar-at}
@@ -56,7 +56,7 @@ inside-fit F r q first last less =
 -- The range of the k-th region.
 
 abbrev pub noRange : Family → Range
-noRange F = rangeOf F (record { first = 0; last = 0; z = 0 })
+noRange F = rangeOf F noRegion
 
 pub ranges-length : (F : Family) → length (rangesOf F) ≡ regionCount F
 unfolding rangesOf
@@ -64,7 +64,7 @@ ranges-length F = length-map (F .regions) (rangeOf F)
 
 pub range-at : (F : Family) (k : ℕ) → getD (rangesOf F) k (noRange F) ≡ rangeOf F (region F k)
 unfolding rangesOf region
-range-at F k = List·getD-map (rangeOf F) (F .regions) k (record { first = 0; last = 0; z = 0 })
+range-at F k = List·getD-map (rangeOf F) (F .regions) k noRegion
 
 pub range-in : (F : Family) (k : ℕ) → k < regionCount F → In (rangeOf F (region F k)) (rangesOf F)
 range-in F k h = rw (range-at F k) at (in-at (noRange F) (rangesOf F) k (omega (arith, ranges-length F)))

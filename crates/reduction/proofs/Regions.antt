@@ -7,7 +7,7 @@ use mathlib.Core.Path.{_≡_, refl, sym, _∙_}
 use native.Mathlib.Omega.{arith}
 use lib.ListN.{length, getD}
 use Rattle.reader.specs.Lists.{countBelow}
-use Rattle.reader.specs.Family.{Region, Family, leaves, regionCount, region}
+use Rattle.reader.specs.Family.{Family, leaves, regionCount, noRegion, region}
 use Rattle.reader.specs.Nesting.{regionsAround}
 use Rattle.reader.specs.Nesting
 use Rattle.reader.specs.WellFormed.{Ordered, NestedBelow}
@@ -18,9 +18,6 @@ use Rattle.reduction.proofs.Grid.{Before, before-le, before-same, FileO
 use Rattle.reduction.proofs.Plain.{Nest, apart, apart′, within as inner, around}
 use Rattle.reduction.proofs.Forest.{OnLeaves, Planted}
 use Rattle.reduction.proofs.Pigeonhole.{howMany}
-
-abbrev noRegion : Region
-noRegion = record { first = 0; last = 0; z = 0 }
 
 -- a range of the list is that of a region
 pub region-place : (F : Family) (r : Range) → In r (rangesOf F) → (k : ℕ) × (k < regionCount F) × (r ≡ rangeOf F (region F k))

@@ -11,7 +11,7 @@ use lib.Seq.{sets, sets-eq, take-suc, take-all}
 use lib.Dec.{eqb}
 use Rattle.reader.specs.Lists.{someBelow}
 use Rattle.reader.specs.Bytes.{IsBytes, bytesOf}
-use Rattle.reader.specs.Family.{Region, Family, leaves, regionCount, familyOf, mark, totalLength, regionFields, fields, fileOf}
+use Rattle.reader.specs.Family.{Region, Family, leaves, regionCount, familyOf, mark, totalLength, regionFields, fields, fileOf, noRegion}
 use Rattle.reader.specs.Causes.{Accepted}
 use Rattle.reader.specs.WellFormed.{WellFormed}
 use Rattle.reader.proofs.Below.{found, some-at}
@@ -35,9 +35,6 @@ use Rattle.reduction.proofs.LeafEnds.{marked-set, region-numbers-next}
 
 abbrev noRange : Range
 noRange = record { from = 0; to = 0; low = 0; high = 0; z = 0 }
-
-abbrev noRegion : Region
-noRegion = record { first = 0; last = 0; z = 0 }
 
 fields-join : (rs qs : List Region) → regionFields (rs ++ qs) ≡ regionFields rs ++ regionFields qs
 unfolding regionFields
