@@ -82,7 +82,8 @@ fn is_crowded(parents: &[u16], spare: &[u16], inner: u16) -> bool
     false
 }
 
-// Takes one mark from what the region of that number, and each around it, can take.
+// Takes one mark from what the region of that number, and each around it, can take. The parent is read first: two such lists
+// often lie a multiple of 4,096 bytes apart, and a read waits for a write at such a distance just before it.
 fn take_mark(parents: &[u16], spare: &mut [u16], inner: u16)
     requires { ⌜ Uncrowded (now parents) (now spare) inner ⌝ }
     ensures { λ _. ⌜ ((F : Family) (leaf : ℕ) → Nested F (now (parents .entry)) → LastHolding F leaf inner → OneLess F (now (spare .entry)) leaf (now (spare .exit))) ⌝ }
@@ -90,8 +91,8 @@ fn take_mark(parents: &[u16], spare: &mut [u16], inner: u16)
     let mut number = inner;
     while number != 0 {
         let k = (number as usize) - 1;
-        spare[k] = spare[k] - 1;
         number = parents[k];
+        spare[k] = spare[k] - 1;
     }
 }
 

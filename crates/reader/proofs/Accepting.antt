@@ -199,11 +199,11 @@ module _ (s : List ℕ) where
   parents-refused h out = rw (ne-eqb (firstCause (fileCauses s)) 0 h)
 
   pub parents-accepted :
-      Accepted s → (P out : List ℕ) → ParentsBelow (familyOf s) P (regionCount (familyOf s)) → regionCount (familyOf s) ≤ length P
-      → withParents s out ≡ cond (leb (regionCount (familyOf s)) (length out)) (take (regionCount (familyOf s)) P ++ drop (regionCount (familyOf s)) out) out
+      Accepted s → (P out : List ℕ) (k : ℕ) → k ≡ regionCount (familyOf s) → ParentsBelow (familyOf s) P (regionCount (familyOf s)) → regionCount (familyOf s) ≤ length P
+      → withParents s out ≡ cond (leb k (length out)) (take k P ++ drop k out) out
   unfolding withParents
-  parents-accepted h P out known room =
+  parents-accepted h P out k e known room =
       let F : Family = familyOf s in
       let clear = accepted-family s h in
       let o = ordered-if-clear F (clear .no7) (clear .no8) in
-      rw (h, parents-written F o (nested-if-clear F o (clear .no9)) P known room)
+      rw (h, e, parents-written F o (nested-if-clear F o (clear .no9)) P known room)

@@ -6,10 +6,8 @@ use mathlib.Core.Path.{_≡_}
 use lib.ListN.{length, getD}
 use lib.Dec.{eqb, ltb}
 use Rattle.reader.specs.Family.{Family, familyOf, regionCount, region}
-use Rattle.reader.specs.Causes.{cause9, firstCause, familyCauses, Accepted}
+use Rattle.reader.specs.Causes.{cause9, firstCause, familyCauses, fileCauses}
 use Rattle.reader.specs.WellFormed.{Ordered, NestedBelow, ParentsBelow}
-use Rattle.reader.specs.declared.Checked.{Checked}
-use Rattle.reader.specs.Calls.{report, checked}
 
 -- what is known where the parent of the k-th region is looked for
 pub record Climbing (F : Family) (P : List ℕ) (k : ℕ) : Type 0 where
@@ -41,7 +39,7 @@ pub record FamilyJudged (F : Family) (P : List ℕ) (number : ℕ) : Type 0 wher
   pub tested : number ≡ firstCause (familyCauses F)
   pub parents : number ≡ 0 → ParentsBelow F P (regionCount F)
 
--- what the check finds, with the parents of an accepted family in the list
-pub record Judged (s P : List ℕ) (r : Checked) : Type 0 where
-  pub reported : report r ≡ checked s
-  pub parents : Accepted s → ParentsBelow (familyOf s) P (regionCount (familyOf s))
+-- the first cause of a file, and the parents of an accepted family in the list
+pub record Judged (s P : List ℕ) (number : ℕ) : Type 0 where
+  pub tested : number ≡ firstCause (fileCauses s)
+  pub parents : number ≡ 0 → ParentsBelow (familyOf s) P (regionCount (familyOf s))

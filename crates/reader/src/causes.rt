@@ -29,7 +29,7 @@ fn lacks_mark(file: &[u8]) -> bool
 }
 
 // The first of the causes 1 to 5 that holds, or 0.
-pub(crate) fn header_cause(file: &[u8]) -> u16
+pub(crate) fn header_cause(file: &[u8]) -> u8
     ensures { λ r. ⌜ r ≡ firstCause (headerCauses (now (file .entry))) ⌝ }
 {
     if lacks_mark(file) {

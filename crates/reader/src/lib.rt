@@ -21,7 +21,7 @@ ghost use Prim.Native.Nat.{_≤_};
 ghost use lib.ListN.{length, take, drop};
 ghost use lib.Dec.{leb};
 ghost use Rattle.reader.specs.Family.{familyOf};
-ghost use Rattle.reader.specs.Causes.{firstCause, headerCauses};
+ghost use Rattle.reader.specs.Causes.{firstCause, headerCauses, fileCauses};
 ghost use Rattle.reader.specs.Climb.{FamilyJudged, Judged};
 ghost use Rattle.reader.specs.Calls.{report, checked, regionPart, withParents};
 
@@ -35,8 +35,9 @@ pub enum Checked {
     Refused(u16),
 }
 
-// The first of the causes 6 to 10 that holds, or 0 with the parents written.
-fn family_cause(file: &[u8], parents: &mut [u16]) -> u16
+// The first of the causes 6 to 10 that holds, or 0 with the parents written. A byte has it: the loops end with it, and a
+// constant of two bytes in a loop is slow on many processors.
+fn family_cause(file: &[u8], parents: &mut [u16]) -> u8
     requires { ⌜ 8191 ≤ length (now parents) ⌝ }
     requires { ⌜ firstCause (headerCauses (now file)) ≡ 0 ⌝ }
     ensures { λ r. ⌜ FamilyJudged (familyOf (now (file .entry))) (now (parents .exit)) r ⌝ }
@@ -56,18 +57,25 @@ fn family_cause(file: &[u8], parents: &mut [u16]) -> u16
     if too_deep(file, parents) { 10 } else { 0 }
 }
 
-// The answer of the check, with the parents of an accepted family written.
-fn judge(file: &[u8], parents: &mut [u16]) -> Checked
+// The first of the causes 1 to 10 that holds, or 0 with the parents written.
+fn judge(file: &[u8], parents: &mut [u16]) -> u8
     requires { ⌜ 8191 ≤ length (now parents) ⌝ }
     ensures { λ r. ⌜ Judged (now (file .entry)) (now (parents .exit)) r ⌝ }
 {
     let header = header_cause(file);
     if header != 0 {
-        return Checked::Refused(header);
+        return header;
     }
-    let family = family_cause(file, parents);
-    if family != 0 {
-        return Checked::Refused(family);
+    family_cause(file, parents)
+}
+
+// The answer of the check, given the first cause that holds.
+fn answer_for(file: &[u8], cause: u8) -> Checked
+    requires { ⌜ cause ≡ firstCause (fileCauses (now file)) ⌝ }
+    ensures { λ r. ⌜ report r ≡ checked (now (file .entry)) ⌝ }
+{
+    if cause != 0 {
+        return Checked::Refused(cause as u16);
     }
     Checked::Family {
         peptides: peptide_count(file),
@@ -81,7 +89,8 @@ pub fn check(file: &[u8]) -> Checked
     ensures { λ r. ⌜ report r ≡ checked (now (file .entry)) ⌝ }
 {
     let mut parents = [0u16; 8191];
-    judge(file, &mut parents)
+    let cause = judge(file, &mut parents);
+    answer_for(file, cause)
 }
 
 // The part of the file that holds the regions; empty if the file is refused or has none.
@@ -122,19 +131,10 @@ pub fn parents(file: &[u8], out: &mut [u16]) -> Checked
     ensures { λ _. ⌜ now (out .exit) ≡ withParents (now (file .entry)) (now (out .entry)) ⌝ }
 {
     let mut found = [0u16; 8191];
-    match judge(file, &mut found) {
-        Checked::Family {
-            peptides,
-            leaves,
-            regions,
-        } => {
-            copy_front(&found, regions as usize, out);
-            Checked::Family {
-                peptides,
-                leaves,
-                regions,
-            }
-        }
-        Checked::Refused(number) => Checked::Refused(number),
+    let cause = judge(file, &mut found);
+    if cause != 0 {
+        return answer_for(file, cause);
     }
+    copy_front(&found, region_count(file) as usize, out);
+    answer_for(file, cause)
 }

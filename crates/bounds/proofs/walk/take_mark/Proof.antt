@@ -49,26 +49,26 @@ cast-k c = search needs
 sub-k : tie.Need-sub-k Inv-loop μ-loop
 sub-k c = search needs
 
+mul-number : tie.Need-mul-number Inv-loop μ-loop
+mul-number c = search needs
+
+shared-slice-read-number : tie.Need-shared-slice-read-number Inv-loop μ-loop
+shared-slice-read-number c = omega (arith, here (c .before) .0, c .before .loop-test .taken)
+
 mul-spare : tie.Need-mul-spare Inv-loop μ-loop
 mul-spare c = search needs
 
 slice-read-spare : tie.Need-slice-read-spare Inv-loop μ-loop
-slice-read-spare c = omega (arith, here (c .before) .1, c .before .before .loop .inv .1, c .before .loop-test .taken)
+slice-read-spare c = omega (arith, here (c .before .before) .1, c .before .before .before .loop .inv .1, c .before .before .loop-test .taken)
 
 sub-spare : tie.Need-sub-spare Inv-loop μ-loop
-sub-spare c = omega (arith, here (c .before) .3, c .before .before .loop .inv .2 (c .before .before .loop .number - 1) (omega (arith, c .before .loop-test .taken)))
+sub-spare c = omega (arith, here (c .before .before) .3, c .before .before .before .loop .inv .2 (c .before .before .before .loop .number - 1) (omega (arith, c .before .before .loop-test .taken)))
 
 mul-spare-2 : tie.Need-mul-spare-2 Inv-loop μ-loop
 mul-spare-2 c = search needs
 
 slice-write-spare : tie.Need-slice-write-spare Inv-loop μ-loop
-slice-write-spare c = omega (arith, here (c .before) .1, c .before .before .loop .inv .1, c .before .loop-test .taken)
-
-mul-number : tie.Need-mul-number Inv-loop μ-loop
-mul-number c = search needs
-
-shared-slice-read-number : tie.Need-shared-slice-read-number Inv-loop μ-loop
-shared-slice-read-number c = omega (arith, here (c .before .before) .0, c .before .before .loop-test .taken)
+slice-write-spare c = omega (arith, here (c .before .before) .1, c .before .before .before .loop .inv .1, c .before .before .loop-test .taken)
 
 loop-less : tie.Need-loop-less Inv-loop μ-loop
 loop-less c = here (c .before .before) .2
@@ -104,13 +104,13 @@ take-mark-spec =
     loop-holds
     cast-k
     sub-k
+    mul-number
+    shared-slice-read-number
     mul-spare
     slice-read-spare
     sub-spare
     mul-spare-2
     slice-write-spare
-    mul-number
-    shared-slice-read-number
     loop-less
     loop-again
     same-length
