@@ -7,7 +7,7 @@ use mathlib.Core.Path.{_≡_, refl, sym, ap, subst, _∙_}
 use native.Mathlib.Nat.{mul-le-mul}
 use native.Mathlib.Numerals.{add-one}
 use native.Mathlib.Omega.{arith}
-use lib.ListN.{length, getD, take, drop, set}
+use lib.ListN.{length, getD, take, drop, set, List·getD-append}
 use lib.Seq.{take-suc, getD-take, drop-cons, set-at, append-snoc, length-take-le, drop-set-lt}
 use lib.Dec.{leb, eqb}
 use borrow.Author.Tests.{eqb-true, eq-eqb, ne-eqb}
@@ -15,17 +15,18 @@ use Rattle.reader.specs.Lists.{tabulate}
 use Rattle.reader.specs.Family.{Family, leaves, regionCount, region, leafOf}
 use Rattle.reader.specs.WellFormed.{WellFormed}
 use Rattle.reader.proofs.Below.{some-at, found}
-use Rattle.reader.proofs.Lists.{length-tabulate}
+use Rattle.reader.proofs.Lists.{length-tabulate, getD-tabulate}
 use Rattle.reader.proofs.Walk.{FirstReaching, leaf-found}
 use Rattle.bounds.specs.Ranges.{Range, Peptides, rangeOf, rangeAt, rangesOf, has, count, In}
-use Rattle.bounds.specs.Curves.{among, entry, markAt, largestUpTo}
+use Rattle.bounds.specs.Curves.{among, entry, markAt, curveMarks, largestUpTo}
 use Rattle.bounds.specs.Paths.{Distinct}
-use Rattle.bounds.specs.Walks.{holdsLeaf, crowded, MarkedNext}
+use Rattle.bounds.specs.Walks.{holdsLeaf, crowded, MarkedNext, marksUpTo, MarksOf}
 use Rattle.bounds.proofs.Members.{test, clash, refuted, both-ways, and-l, and-r, and-both, bit, le-or-lt, place}
 use Rattle.bounds.proofs.Counting.{none, card-none, adding, count-none, count-adding, count-adding-other}
 use Rattle.bounds.proofs.Nesting.{has-facts, has-holds}
 use Rattle.bounds.proofs.Greedy.{blocked, blocked-facts, blocked-holds, afterStep, among-facts, greedy, greedy-snoc, greedy-new}
 use Rattle.bounds.proofs.Paths.{path-bound, entry-step}
+use Rattle.bounds.proofs.Selecting.{bit-few}
 use Rattle.bounds.proofs.Family.{upTo-mono, noRange, ranges-length, range-at, range-in, family-laminar}
 use Rattle.bounds.proofs.Holding.{crowdedAt, holds-facts, from-holds}
 
@@ -172,10 +173,8 @@ module _ {F : Family} {path : List ℕ} (well : WellFormed F) (is : Distinct (F 
   unfolding entry greedy
   entry-start = sym (path-bound (family-laminar well) []) ∙ card-none (F .peptides) none (λ p l u. refl)
 
-  -- One step: the mark and the entry are right, and so is what the regions can take after it.
+  -- One step: the mark is right, and so is what the regions can take after it.
   pub record RightStep (t : ℕ) (D : List ℕ) (marked : ℕ) : Type 0 where
-    pub small : marked ≤ 1
-    pub entered : entry F path (t + 1) ≡ entry F path t + marked
     pub right : marked ≡ markAt F path (t + 1)
     pub spare : SpareFor F (markedSet (t + 1)) D
 
@@ -201,8 +200,6 @@ module _ {F : Family} {path : List ℕ} (well : WellFormed F) (is : Distinct (F 
     pub next : RightStep t D marked
     next =
         record {
-          small = ⊎-elim (λ e. omega (arith, marked-bit ∙ ap (λ b. bit (not b)) e)) (λ e. omega (arith, marked-bit ∙ ap (λ b. bit (not b)) e)) (test (stops t));
-          entered = rw add-one (omega (arith, entry-next t h, marked-bit));
           right = marked-bit ∙ sym (mark-is t h);
           spare = rw add-one spare-next;
         }
@@ -237,20 +234,64 @@ pub write-first : (f : ℕ → ℕ) (xs : List ℕ) (v : ℕ) → 0 < length xs 
 unfolding tabulate
 write-first f xs v h e = rw (drop-set-lt 1 xs 0 v (omega arith)) (write-more f xs 0 v h e)
 
+-- The entries, from the marks.
+
+module _ (M : List ℕ) where
+  pub marks-none : marksUpTo M 0 ≡ 0
+  unfolding marksUpTo
+  marks-none = refl
+
+  pub marks-more : (t : ℕ) → marksUpTo M (t + 1) ≡ marksUpTo M t + getD M t 0
+  unfolding marksUpTo
+  marks-more t = rw add-one refl
+
+module _ {F : Family} {path : List ℕ} (well : WellFormed F) (is : Distinct (F .peptides) path) (M : List ℕ) (right : (t : ℕ) → t < length path → getD M t 0 ≡ markAt F path (t + 1)) where
+  pub entries-marked : (t : ℕ) → t ≤ length path → marksUpTo M t ≡ entry F path t
+  unfolding marksUpTo
+  entries-marked zero h = sym (entry-start well is)
+  entries-marked (suc t) h =
+      omega (arith, entries-marked t (omega arith), right t (omega arith), mark-is well is t (omega arith), entry-next well is t (omega arith))
+
+  pub marks-of : (places : ℕ) → places ≡ length path → length path ≤ F .peptides → length path ≤ length M → MarksOf places M
+  marks-of places e short room =
+      record {
+        room = omega arith;
+        few = omega (arith, well .peptides-most);
+        small = λ t h. omega (arith, right t (omega arith), mark-is well is t (omega arith), bit-few (not (stops well is t)));
+      }
+
+-- the marks written at the start of a list
+pub marks-written : (F : Family) (path rest : List ℕ) (t : ℕ) → t < length path → getD (curveMarks F path ++ rest) t 0 ≡ markAt F path (t + 1)
+unfolding curveMarks
+marks-written F path rest t h =
+    List·getD-append (tabulate (length path) (λ i. markAt F path (i + 1))) rest 0 t (omega (arith, length-tabulate (length path) (λ i. markAt F path (i + 1))))
+    ∙ getD-tabulate (length path) (λ i. markAt F path (i + 1)) 0 t h
+
+-- equal functions have equal lists, and equal tests the same largest number
+pub tabulate-same : (f g : ℕ → ℕ) (n : ℕ) → ((t : ℕ) → t < n → f t ≡ g t) → tabulate n f ≡ tabulate n g
+unfolding tabulate
+tabulate-same f g zero h = refl
+tabulate-same f g (suc n) h = rw (h 0 (omega arith), tabulate-same (λ i. f (suc i)) (λ i. g (suc i)) n (λ t l. h (suc t) (omega arith)))
+
+pub largest-same : (p q : ℕ → Bool) (n : ℕ) → ((t : ℕ) → t ≤ n → p t ≡ q t) → largestUpTo n p ≡ largestUpTo n q
+unfolding largestUpTo
+largest-same p q zero h = refl
+largest-same p q (suc n) h = rw (h (suc n) (omega arith), largest-same p q n (λ t l. h t (omega arith)))
+
 -- The cut.
 
 -- the largest number up to t that passes
-abbrev pub cutUpTo : Family → List ℕ → ℕ → ℕ → ℕ → ℕ
-cutUpTo F path a b t = largestUpTo t (λ t. leb (entry F path t * b) (a * t))
+abbrev pub passingUpTo : List ℕ → ℕ → ℕ → ℕ → ℕ
+passingUpTo M a b t = largestUpTo t (λ t. leb (marksUpTo M t * b) (a * t))
 
-pub cut-start : (F : Family) (path : List ℕ) (a b : ℕ) → 0 ≡ cutUpTo F path a b 0
+pub passing-none : (M : List ℕ) (a b : ℕ) → 0 ≡ passingUpTo M a b 0
 unfolding largestUpTo
-cut-start F path a b = refl
+passing-none M a b = refl
 
-pub cut-next : (F : Family) (path : List ℕ) (a b t e cut r : ℕ) → e ≡ entry F path (t + 1) → cut ≡ cutUpTo F path a b t
-    → r ≡ cond (leb (e * b) (a * (t + 1))) (t + 1) cut → r ≡ cutUpTo F path a b (t + 1)
+pub passing-more : (M : List ℕ) (a b t e cut r : ℕ) → e ≡ marksUpTo M (t + 1) → cut ≡ passingUpTo M a b t
+    → r ≡ cond (leb (e * b) (a * (t + 1))) (t + 1) cut → r ≡ passingUpTo M a b (t + 1)
 unfolding largestUpTo
-cut-next F path a b t e cut r entered before h = h ∙ rw (entered, before, add-one)
+passing-more M a b t e cut r entered before h = h ∙ rw (entered, before, add-one)
 
 -- a product of two 16-bit numbers fits 32 bits
 pub product-fits : (a b : ℕ) → a < 65536 → b < 65536 → a * b < 4294967296

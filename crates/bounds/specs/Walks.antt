@@ -1,5 +1,5 @@
 -- What the private functions that check a path and walk along it promise each other.
-use Prim.Native.Nat.{ℕ, suc, _+_, _-_, _<_, _≤_}
+use Prim.Native.Nat.{ℕ, zero, suc, _+_, _-_, _<_, _≤_}
 use mathlib.Core.Bool.{Bool, true, false, cond, _&&_}
 use mathlib.Core.List.{List}
 use mathlib.Core.Path.{_≡_}
@@ -90,3 +90,16 @@ pub record MarkedNext (F : Family) (S : List ℕ) (p : ℕ) (D : List ℕ) (mark
   pub same : length D ≡ length S
   pub marked : mark ≡ cond (crowded F S (leafOf F p)) 0 1
   pub less : (k : ℕ) → k < regionCount F → getD D k 0 ≡ getD S k 0 - cond (holdsLeaf F (leafOf F p) k) mark 0
+
+-- The marks along a path.
+
+-- the marks at the first t places, added up
+unfoldable pub marksUpTo : List ℕ → ℕ → ℕ
+marksUpTo M zero = 0
+marksUpTo M (suc t) = marksUpTo M t + getD M t 0
+
+-- the list begins with the marks at so many places
+pub record MarksOf (places : ℕ) (M : List ℕ) : Type 0 where
+  pub room : places ≤ length M
+  pub few : places ≤ 4096
+  pub small : (t : ℕ) → t < places → getD M t 0 ≤ 1
