@@ -1,18 +1,19 @@
 // The bound of a selection with its taken regions, the curve along a path with its marks, and the cut.
 mod cursor;
+mod entries;
 mod path;
 mod rows;
 mod selection;
 mod taking;
 mod walk;
 
+use entries::find_cut;
+use entries::write_curve;
 use path::Admitted;
 use path::admit;
 use rows::line_value;
 use selection::selection_cause;
 use taking::write_taken;
-use walk::find_cut;
-use walk::write_curve;
 ghost use Rattle.bounds.specs.Calls.{BoundAnswers, TakenWrites, TotalsWrites, CurveAnswers, CurveValuesWrites, CurveMarksWrites, CurveDeclines, CutAnswers};
 
 // A bound, or the number of the first cause that holds.

@@ -6,8 +6,8 @@ use denote.Ref.{now}
 use Rattle.bounds.specs.Walks.{marksUpTo}
 use Rattle.bounds.proofs.Walking.{marks-none, marks-more, passingUpTo, passing-none, passing-more}
 use borrow.Author.Needs.{needs}
-use Rattle.bounds.proofs.walk.last_passing.Statement.{statement}
-use Rattle.bounds.proofs.walk.last_passing.Tie as tie
+use Rattle.bounds.proofs.entries.last_passing.Statement.{statement}
+use Rattle.bounds.proofs.entries.last_passing.Tie as tie
 
 abbrev Inv-loop : tie.InvT-loop
 Inv-loop marks places a b entry₀ cut₀ t₀ entry cut t =

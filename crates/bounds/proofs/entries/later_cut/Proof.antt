@@ -4,8 +4,8 @@ use native.Mathlib.Omega.{arith}
 use borrow.Author.Tests.{le-leb, lt-leb}
 use Rattle.bounds.proofs.Walking.{product-fits}
 use borrow.Author.Needs.{needs}
-use Rattle.bounds.proofs.walk.later_cut.Statement.{statement}
-use Rattle.bounds.proofs.walk.later_cut.Tie as tie
+use Rattle.bounds.proofs.entries.later_cut.Statement.{statement}
+use Rattle.bounds.proofs.entries.later_cut.Tie as tie
 
 mul-if1 : tie.Need-mul-if1
 mul-if1 c = record { fits = product-fits _ _ (search needs) (search needs) }

@@ -10,8 +10,8 @@ use Rattle.reader.specs.Lists.{tabulate}
 use Rattle.bounds.specs.Walks.{marksUpTo}
 use Rattle.bounds.proofs.Walking.{marks-none, marks-more, write-first, write-more}
 use borrow.Author.Needs.{needs}
-use Rattle.bounds.proofs.walk.write_values.Statement.{statement}
-use Rattle.bounds.proofs.walk.write_values.Tie as tie
+use Rattle.bounds.proofs.entries.write_values.Statement.{statement}
+use Rattle.bounds.proofs.entries.write_values.Tie as tie
 
 abbrev Inv-loop : tie.InvT-loop
 Inv-loop marks places values₀ entry₀ t₀ values entry t =

@@ -11,8 +11,8 @@ use Rattle.bounds.specs.Curves.{entry, markAt, cutOf}
 use Rattle.bounds.specs.Walks.{marksUpTo}
 use Rattle.bounds.proofs.Walking.{entries-marked, marks-of, marks-written, largest-same}
 use borrow.Author.Needs.{needs}
-use Rattle.bounds.proofs.walk.find_cut.Statement.{statement}
-use Rattle.bounds.proofs.walk.find_cut.Tie as tie
+use Rattle.bounds.proofs.entries.find_cut.Statement.{statement}
+use Rattle.bounds.proofs.entries.find_cut.Tie as tie
 
 right : (c : tie.After-mark-path) (t : ℕ) → t < length (now (c .before .before .before .before .before .args .path))
     → getD (c .mark-path .last .1 .1 .1 .0) t 0 ≡ markAt (familyOf (now (c .before .before .before .before .before .args .file))) (now (c .before .before .before .before .before .args .path)) (t + 1)
