@@ -9,9 +9,9 @@ use std::hint::black_box;
 use std::time::{Duration, Instant};
 
 /// Every measurement takes the best of this many turns: what disturbs a turn only makes it longer.
-const TURNS: usize = 15;
+const TURNS: usize = 31;
 /// A turn repeats the call until it has taken about so long.
-const TURN: Duration = Duration::from_millis(4);
+const TURN: Duration = Duration::from_millis(2);
 
 struct Input {
     name: String,
