@@ -14,7 +14,7 @@ use borrow.Author.Tests.{ltb-true, lt-ltb, le-ltb}
 use Rattle.reader.specs.Lists.{tabulate}
 use Rattle.reader.specs.Family.{Family, regionCount, region}
 use Rattle.reader.specs.WellFormed.{WellFormed}
-use Rattle.reader.proofs.Lists.{length-tabulate, getD-tabulate, copy-more}
+use Rattle.reader.proofs.Lists.{length-tabulate, getD-tabulate, copy-more, tabulate-same}
 use Rattle.bounds.specs.Ranges.{Range, Peptides, rangeOf, rangesOf, In, rangeAt}
 use Rattle.bounds.specs.Bound.{total, full, isTaken, takenBytes}
 use Rattle.bounds.specs.Selections.{selected, takenOf, totalsOf}
@@ -28,11 +28,6 @@ use Rattle.bounds.proofs.Family.{noRange, ranges-length, range-at}
 use Rattle.bounds.proofs.RowTotals.{range-z, member-at, at-member, inside-before, inside-block}
 
 -- Lists written by their places.
-
-tabulate-same : {A : Type 0} (n : ℕ) (f g : ℕ → A) → ((k : ℕ) → k < n → f k ≡ g k) → tabulate n f ≡ tabulate n g
-unfolding tabulate
-tabulate-same zero f g h = refl
-tabulate-same (suc n) f g h = cc (h 0 (omega arith), tabulate-same n (λ k. f (suc k)) (λ k. g (suc k)) (λ k l. h (suc k) (omega arith)))
 
 map-tabulate : {A B : Type 0} (d : A) (f : A → B) (L : List A) → map f L ≡ tabulate (length L) (λ k. f (getD L k d))
 unfolding tabulate

@@ -267,12 +267,7 @@ marks-written F path rest t h =
     List·getD-append (tabulate (length path) (λ i. markAt F path (i + 1))) rest 0 t (omega (arith, length-tabulate (length path) (λ i. markAt F path (i + 1))))
     ∙ getD-tabulate (length path) (λ i. markAt F path (i + 1)) 0 t h
 
--- equal functions have equal lists, and equal tests the same largest number
-pub tabulate-same : (f g : ℕ → ℕ) (n : ℕ) → ((t : ℕ) → t < n → f t ≡ g t) → tabulate n f ≡ tabulate n g
-unfolding tabulate
-tabulate-same f g zero h = refl
-tabulate-same f g (suc n) h = rw (h 0 (omega arith), tabulate-same (λ i. f (suc i)) (λ i. g (suc i)) n (λ t l. h (suc t) (omega arith)))
-
+-- equal tests have the same largest number
 pub largest-same : (p q : ℕ → Bool) (n : ℕ) → ((t : ℕ) → t ≤ n → p t ≡ q t) → largestUpTo n p ≡ largestUpTo n q
 unfolding largestUpTo
 largest-same p q zero h = refl

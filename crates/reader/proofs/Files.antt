@@ -12,7 +12,7 @@ use Rattle.reader.specs.Bytes.{IsBytes, numberAt, bytesOf}
 use Rattle.reader.specs.Family.{Region, Family, noRegion, leaves, regionCount, region, mark, totalLength, lengthAt, regionAt, familyOf, regionFields, fields, fileOf}
 use Rattle.reader.specs.Causes.{Accepted}
 use Rattle.reader.specs.WellFormed.{WellFormed}
-use Rattle.reader.proofs.Lists.{length-tabulate, getD-tabulate}
+use Rattle.reader.proofs.Lists.{length-tabulate, getD-tabulate, tabulate-same}
 use Rattle.reader.proofs.Parsed.{peptides-read, leaves-read, regions-read}
 use Rattle.reader.proofs.Judged.{Before, LaidDown, marked, from-marked, from-peptides-counted, from-leaves-counted, from-regions-counted, laid-down, from-laid-down, from-lengths-clear, from-regions-placed, from-regions-rise}
 use Rattle.reader.proofs.Climbing.{clear-if-nested, not-too-deep}
@@ -242,12 +242,6 @@ module _ (F : Family) (w : WellFormed F) where
 -- The file of the family of an accepted file.
 
 module _ {A : Type 0} where
-  tabulate-same : (n : ℕ) (f g : ℕ → A) → ((i : ℕ) → i < n → f i ≡ g i) → tabulate n f ≡ tabulate n g
-  unfolding tabulate
-  tabulate-same zero f g h = refl
-  tabulate-same (suc n) f g h =
-      rw (h 0 (omega arith), tabulate-same n (λ i. f (suc i)) (λ i. g (suc i)) (λ i l. h (suc i) (omega arith)))
-
   tabulate-join : (n k : ℕ) (f : ℕ → A) → tabulate (n + k) f ≡ tabulate n f ++ tabulate k (λ i. f (n + i))
   unfolding tabulate
   tabulate-join zero k f = rw zero-add (tabulate-same k f (λ i. f (0 + i)) (λ i l. ap f (sym (zero-add i))))

@@ -25,6 +25,12 @@ module _ {A : Type 0} where
   getD-tabulate (suc n) f d zero h = refl
   getD-tabulate (suc n) f d (suc k) h = getD-tabulate n (λ i. f (suc i)) d k (le-of-suc-le-suc h)
 
+  pub tabulate-same : (n : ℕ) (f g : ℕ → A) → ((i : ℕ) → i < n → f i ≡ g i) → tabulate n f ≡ tabulate n g
+  unfolding tabulate
+  tabulate-same zero f g h = refl
+  tabulate-same (suc n) f g h =
+      rw (h 0 (omega arith), tabulate-same n (λ i. f (suc i)) (λ i. g (suc i)) (λ i l. h (suc i) (omega arith)))
+
 -- the sum up to one element more; past the end nothing is added
 pub sum-take-suc : (l : List ℕ) (j : ℕ) → sum (take (suc j) l) ≡ sum (take j l) + getD l j 0
 unfolding sum

@@ -6,9 +6,10 @@ use mathlib.Core.Path.{_≡_, refl, ap, _∙_}
 use lib.ListN.{length, getD, drop}
 use denote.Ref.{now}
 use Rattle.reader.specs.Family.{familyOf}
+use Rattle.reader.proofs.Lists.{tabulate-same}
 use Rattle.bounds.specs.Curves.{entry, markAt, curveValues}
 use Rattle.bounds.specs.Walks.{marksUpTo}
-use Rattle.bounds.proofs.Walking.{entries-marked, marks-of, marks-written, tabulate-same}
+use Rattle.bounds.proofs.Walking.{entries-marked, marks-of, marks-written}
 use borrow.Author.Needs.{needs}
 use Rattle.bounds.proofs.entries.write_curve.Statement.{statement}
 use Rattle.bounds.proofs.entries.write_curve.Tie as tie
@@ -44,7 +45,7 @@ returns c =
     let M = c .before .before .before .before .before .before .before .mark-path .last .1 .1 .1 .0 in (
       c .before .before .write-values .ensures
           ∙ ap (λ (l : List ℕ). l ++ drop (length path + 1) (now (args .values)))
-          (tabulate-same (marksUpTo M) (entry F path) (length path + 1) (λ t l. entries-marked (walk .well) (walk .different) M (right (c .before .before .before .before .before .before .before)) t (omega arith))),
+          (tabulate-same (length path + 1) (marksUpTo M) (entry F path) (λ t l. entries-marked (walk .well) (walk .different) M (right (c .before .before .before .before .before .before .before)) t (omega arith))),
       c .before .before .before .before .before .before .before .mark-path .ensures,
     )
 
