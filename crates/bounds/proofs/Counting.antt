@@ -6,11 +6,12 @@ use mathlib.Core.Logic.{_≢_, _⊎_, inl, inr, ⊎-elim}
 use mathlib.Core.Path.{_≡_, refl, ap}
 use native.Mathlib.Decide.{le-ind}
 use native.Mathlib.Nat.{eq-or-lt-of-le}
+use native.Mathlib.Numerals.{add-one}
 use native.Mathlib.Omega.{arith}
 use lib.Dec.{eqb, leb}
 use borrow.Author.Tests.{eqb-true, eqb-false, eq-eqb, ne-eqb, le-leb, lt-leb, le-ltb, lt-ltb}
 use Rattle.bounds.specs.Ranges.{Range, Peptides, has, card, count, some, sumOver, outside, In}
-use Rattle.bounds.proofs.Members.{test, le-or-lt, clash, refuted, and-both, ands, or-l, or-r, or-either, bit, bit-mono, sum-mono, sum-same}
+use Rattle.bounds.proofs.Members.{test, le-or-lt, clash, refuted, and-both, ands, or-l, or-r, or-either, bit, bit-few, bit-mono, sum-mono, sum-same}
 
 -- Sets of peptides, compared on 1 to m.
 
@@ -22,6 +23,16 @@ SameSet m X Y = (p : ℕ) → 0 < p → p ≤ m → X p ≡ Y p
 
 abbrev pub none : Peptides
 none p = false
+
+pub card-next : (n : ℕ) (X : Peptides) → card (n + 1) X ≡ card n X + bit (X (suc n))
+unfolding card
+card-next n X = rw add-one
+
+-- a set has no more of the peptides than there are
+pub card-most : (n : ℕ) (X : Peptides) → card n X ≤ n
+unfolding card
+card-most zero X = omega arith
+card-most (suc n) X = omega (arith, card-most n X, bit-few (X (suc n)))
 
 pub card-mono : (m : ℕ) (X Y : Peptides) → Subset m X Y → card m X ≤ card m Y
 unfolding card

@@ -29,7 +29,7 @@ use Rattle.bounds.proofs.Formula.{formula3}
 use Rattle.bounds.proofs.Paths.{path-admissible, path-bound}
 use Rattle.bounds.proofs.Family.{family-laminar}
 use Rattle.bounds.proofs.PathLaws.{or-false, accepted-path}
-use Rattle.bounds.proofs.Walking.{markedSet, stops, marked-stays, marked-grows, entry-next, mark-is}
+use Rattle.bounds.proofs.Marks.{markedSet, stops, marked-stays, marked-grows, entry-next, mark-is}
 
 -- What the theorem says of the first t peptides of a path.
 pub record CurveAt (F : Family) (path : List ℕ) (t : ℕ) : Type 0 where

@@ -1,8 +1,8 @@
 -- The ranges of a family are laminar.
 use Prim.Native.Nat.{ℕ, zero, suc, _+_, _-_, _≤_, _<_}
 use mathlib.Core.List.{List, [], _∷_}
-use mathlib.Core.Logic.{_⊎_, ⊎-elim}
-use mathlib.Core.Path.{_≡_}
+use mathlib.Core.Logic.{⊎-elim}
+use mathlib.Core.Path.{_≡_, refl, _∙_}
 use native.Mathlib.Nat.{eq-or-lt-of-le}
 use native.Mathlib.Numerals.{add-one}
 use native.Mathlib.Omega.{arith}
@@ -16,8 +16,8 @@ use Rattle.reader.proofs.Parsed.{length-leaf}
 use Rattle.reader.proofs.Walk.{up-to-next}
 use Rattle.reader.proofs.Accepting.{well-formed}
 use Rattle.reader.specs.Family.{Region, Family, leaves, regionCount, noRegion, region, leafLength, peptidesUpTo, familyOf}
-use Rattle.bounds.specs.Ranges.{Range, rangeOf, rangesOf, In}
-use Rattle.bounds.proofs.Members.{in-at}
+use Rattle.bounds.specs.Ranges.{Range, rangeOf, rangesOf, In, rangeAt}
+use Rattle.bounds.proofs.Members.{in-at, place}
 use Rattle.bounds.proofs.Laminar.{Fit, isAround, isBefore, Proper, Laminar, laminar-at}
 
 sum-take : (i j : ℕ) (L : List ℕ) → i ≤ j → sum (take i L) ≤ sum (take j L)
@@ -69,7 +69,25 @@ range-at F k = List·getD-map (rangeOf F) (F .regions) k noRegion
 pub range-in : (F : Family) (k : ℕ) → k < regionCount F → In (rangeOf F (region F k)) (rangesOf F)
 range-in F k h = rw (range-at F k) at (in-at (noRange F) (rangesOf F) k (omega (arith, ranges-length F)))
 
+pub range-z : (F : Family) (k : ℕ) → rangeAt F k .z ≡ region F k .z
+unfolding rangeOf
+range-z F k = refl
+
+-- a range of the family is that of a region
+pub record OfRegion (F : Family) (r : Range) : Type 0 where
+  pub at : ℕ
+  pub few : at < regionCount F
+  pub is : r ≡ rangeAt F at
+
+pub of-region : (F : Family) (r : Range) → In r (rangesOf F) → OfRegion F r
+of-region F r i =
+    let p = place (noRange F) (rangesOf F) r i in
+    record { at = p .at; few = omega (arith, p .inRange, ranges-length F); is = p .there ∙ range-at F (p .at) }
+
 module _ {F : Family} (w : WellFormed F) where
+  pub leaf-most : (j : ℕ) → j ≤ leaves F → peptidesUpTo F j ≤ F .peptides
+  leaf-most j h = omega (arith, upTo-most F j h, w .lengths-sum)
+
   region-fit : (i j : ℕ) → i < j → j < regionCount F → Fit (rangeOf F (region F i)) (rangeOf F (region F j))
   region-fit i j less h = ⊎-elim (after-fit F (region F i) (region F j)) nest (w .nested i j less h)
     where

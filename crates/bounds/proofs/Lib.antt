@@ -16,6 +16,7 @@ pub mod TakenBytes
 pub mod SelectionCalls
 pub mod Theorems
 pub mod Holding
+pub mod Marks
 pub mod Walking
 pub mod PathLaws
 pub mod Answering

@@ -20,6 +20,10 @@ le-or-lt a b = ⊎-elim (λ e. inl (leb-true a b e)) (λ e. inr (leb-false a b e
 abbrev pub bit : Bool → ℕ
 bit b = cond b 1 0
 
+pub bit-few : (b : Bool) → bit b ≤ 1
+bit-few true = omega arith
+bit-few false = omega arith
+
 pub bit-mono : (a b : Bool) → (a ≡ true → b ≡ true) → bit a ≤ bit b
 bit-mono true b h = rw (h refl) (omega arith)
 bit-mono false b h = omega arith

@@ -10,15 +10,15 @@ use lib.ListN.{length, getD}
 use Rattle.reader.specs.Family.{Family, leaves, regionCount, region, peptidesUpTo}
 use Rattle.reader.specs.WellFormed.{WellFormed}
 use Rattle.reader.proofs.Walk.{up-to-end, nothing-before}
-use Rattle.bounds.specs.Ranges.{Range, Peptides, card, count, those, sumOver, justInside, parts, rangeOf, rangesOf, In, rangeAt}
+use Rattle.bounds.specs.Ranges.{Range, Peptides, card, count, those, sumOver, justInside, parts, rangeOf, rangesOf, rangeAt}
 use Rattle.bounds.specs.Bound.{total, value}
 use Rattle.bounds.specs.Rows.{wholeLine, rowRange, leafBefore, lastLeaf}
-use Rattle.bounds.proofs.Members.{le-or-lt, refuted, place}
+use Rattle.bounds.proofs.Members.{le-or-lt, refuted}
 use Rattle.bounds.proofs.Counting.{count-between, partition-in}
 use Rattle.bounds.proofs.Nesting.{Inside, just-facts, just-holds, part-facts}
 use Rattle.bounds.proofs.Laminar.{Hosts, member-hosts, parts-apart, Around, around-hosts}
 use Rattle.bounds.proofs.Totals.{total-is}
-use Rattle.bounds.proofs.Family.{upTo-mono, upTo-most, noRange, ranges-length, range-at, range-in, family-laminar}
+use Rattle.bounds.proofs.Family.{upTo-mono, noRange, ranges-length, range-at, range-in, family-laminar, leaf-most, OfRegion, of-region}
 
 -- Sums over the numbers below a limit.
 
@@ -59,10 +59,6 @@ sum-those d t f (x ∷ L) = omega (arith, sum-those d t f L, sum-front (length L
     head true = refl
     head false = omega arith
 
-pub range-z : (F : Family) (k : ℕ) → rangeAt F k .z ≡ region F k .z
-unfolding rangeOf
-range-z F k = refl
-
 -- Region k is just inside the range of the row that begins at region b.
 abbrev pub isPart : Family → ℕ → ℕ → Bool
 isPart F b k = justInside (rangesOf F) (rangeAt F k) (rowRange F b)
@@ -74,15 +70,6 @@ partSum F b f j = sumBelow j (λ k. cond (isPart F b k) (f (rangeAt F k)) 0)
 -- The regions in file order.
 
 module _ {F : Family} (w : WellFormed F) where
-  -- a member is the range of a region
-  pub member-at : (t : Range) → In t (rangesOf F) → (k : ℕ) × (k < regionCount F) × (t ≡ rangeAt F k)
-  member-at t i =
-      let p = place (noRange F) (rangesOf F) t i in
-      (p .at, omega (arith, p .inRange, ranges-length F), p .there ∙ range-at F (p .at))
-
-  pub at-member : (k : ℕ) → k < regionCount F → In (rangeAt F k) (rangesOf F)
-  at-member k l = range-in F k l
-
   -- Region k is inside region i exactly if it comes later and begins before region i ends.
   pub inside-before : (k i : ℕ) → k < regionCount F → i < regionCount F → Inside (rangeAt F k) (rangeAt F i) → (i < k) × (region F k .first ≤ region F i .last)
   unfolding rangeOf
@@ -122,28 +109,28 @@ module _ {F : Family} (w : WellFormed F) where
 
   pub line-is-around : Around (F .peptides) (rangesOf F) (wholeLine F)
   unfolding wholeLine
-  line-is-around = record { every = λ r i. every r (member-at r i); start = refl; end = refl }
+  line-is-around = record { every = λ r i. every r (of-region F r i); start = refl; end = refl }
     where
-      every : (r : Range) → (k : ℕ) × (k < regionCount F) × (r ≡ rangeAt F k) → Inside r (wholeLine F)
-      every r f = rw (f .2) (line-holds (f .0) (f .1))
+      every : (r : Range) → OfRegion F r → Inside r (wholeLine F)
+      every r f = rw (f .is) (line-holds (f .at) (f .few))
 
   row-hosts : (b : ℕ) → b ≤ regionCount F → Hosts (rangesOf F) (rowRange F b)
   unfolding rowRange
   row-hosts zero h = around-hosts (family-laminar w) line-is-around
-  row-hosts (suc i) h = member-hosts (family-laminar w) (rangeAt F i) (at-member i h)
+  row-hosts (suc i) h = member-hosts (family-laminar w) (rangeAt F i) (range-in F i h)
 
   -- The parts of a row.
 
   -- a region of the block is a part, if all regions of the block before it end before it begins;
   pub part-here : (b j : ℕ) → b ≤ j → j < regionCount F → region F j .first ≤ lastLeaf F b
       → ((i : ℕ) → b ≤ i → i < j → region F i .last < region F j .first) → isPart F b j ≡ true
-  part-here b j h l a ended = just-holds (record { inner = row-block b j h l a; next = λ t i tj tq. between t (member-at t i) tj tq })
+  part-here b j h l a ended = just-holds (record { inner = row-block b j h l a; next = λ t i tj tq. between t (of-region F t i) tj tq })
     where
-      between : (t : Range) → (k : ℕ) × (k < regionCount F) × (t ≡ rangeAt F k) → Inside (rangeAt F j) t → Inside t (rowRange F b) → ⊥
+      between : (t : Range) → OfRegion F t → Inside (rangeAt F j) t → Inside t (rowRange F b) → ⊥
       between t f tj tq =
-          let k = f .0 in
-          let out = inside-before j k l (f .1) (rw (f .2) at tj) in
-          let inn = row-inner b k (omega arith) (f .1) (rw (f .2) at tq) in
+          let k = f .at in
+          let out = inside-before j k l (f .few) (rw (f .is) at tj) in
+          let inn = row-inner b k (omega arith) (f .few) (rw (f .is) at tq) in
           omega (arith, ended k (inn .0) (out .0), out .1)
 
   -- the regions inside a region of the block are not,
@@ -151,7 +138,7 @@ module _ {F : Family} (w : WellFormed F) where
       → isPart F b k ≡ false
   part-deeper b j k h a less l inn =
       refuted (isPart F b k)
-      (λ e. just-facts (rangesOf F) (rangeAt F k) (rowRange F b) e .next (rangeAt F j) (at-member j (omega arith)) (inside-block k j less l inn) (row-block b j h (omega arith) a))
+      (λ e. just-facts (rangesOf F) (rangeAt F k) (rowRange F b) e .next (rangeAt F j) (range-in F j (omega arith)) (inside-block k j less l inn) (row-block b j h (omega arith) a))
 
   -- nor are those before the block, or after it
   pub part-before : (b k : ℕ) → b ≤ regionCount F → k < b → isPart F b k ≡ false
@@ -190,16 +177,13 @@ module _ {F : Family} (w : WellFormed F) where
 
   -- Selected peptides, counted by leaves.
 
-  pub leaf-most : (j : ℕ) → j ≤ leaves F → peptidesUpTo F j ≤ F .peptides
-  leaf-most j h = omega (arith, upTo-most F j h, w .lengths-sum)
-
   pub region-counted : (S : Peptides) (k : ℕ) → k < regionCount F
       → card (peptidesUpTo F (region F k .first - 1)) S + count (F .peptides) S (rangeAt F k) ≡ card (peptidesUpTo F (region F k .last)) S
   unfolding rangeOf
   region-counted S k l =
       count-between (F .peptides) S (rangeOf F (region F k))
       (upTo-mono F (region F k .first - 1) (region F k .last) (omega (arith, w .ordered .first-last k l)))
-      (leaf-most (region F k .last) (w .ordered .last-leaf k l))
+      (leaf-most w (region F k .last) (w .ordered .last-leaf k l))
 
   pub row-counted : (S : Peptides) (b : ℕ) → b ≤ regionCount F
       → card (peptidesUpTo F (leafBefore F b)) S + count (F .peptides) S (rowRange F b) ≡ card (peptidesUpTo F (lastLeaf F b)) S

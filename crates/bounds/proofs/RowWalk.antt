@@ -23,9 +23,9 @@ use Rattle.bounds.specs.Rows.{rowRange, leafBefore, lastLeaf, beginsBy, 
 use Rattle.reader.proofs.Walk.{nothing-before}
 use Rattle.bounds.proofs.Members.{le-or-lt}
 use Rattle.bounds.proofs.Totals.{bound-is}
-use Rattle.bounds.proofs.Selecting.{card-most}
-use Rattle.bounds.proofs.Family.{family-laminar}
-use Rattle.bounds.proofs.RowTotals.{range-z, line-is-around, isPart, partSum, part-here, part-deeper, part-after, part-sum-none, part-sum-one, part-sum-start, leaf-most, region-counted, row-total}
+use Rattle.bounds.proofs.Counting.{card-most}
+use Rattle.bounds.proofs.Family.{family-laminar, range-z, leaf-most}
+use Rattle.bounds.proofs.RowTotals.{line-is-around, isPart, partSum, part-here, part-deeper, part-after, part-sum-none, part-sum-one, part-sum-start, region-counted, row-total}
 
 -- Stored totals.
 

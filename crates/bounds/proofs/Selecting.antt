@@ -1,7 +1,5 @@
--- The bytes of a selection, and how many of its peptides are passed.
-use Prim.Native.Nat.{ℕ, zero, suc, _+_, _≤_, _<_}
-use native.Mathlib.Numerals.{add-one}
-use native.Mathlib.Omega.{arith}
+-- Cause 14: what it says of the bytes of a selection.
+use Prim.Native.Nat.{ℕ, _<_}
 use mathlib.Core.Bool.{Bool, true, false, not}
 use mathlib.Core.List.{List}
 use mathlib.Core.Path.{_≡_}
@@ -11,9 +9,7 @@ use borrow.Author.Tests.{eq-eqb, ne-eqb, eqb-true, lt-ltb, not-false}
 use Rattle.reader.specs.Lists.{someBelow}
 use Rattle.reader.proofs.Bools.{or-r, or-fails-l}
 use Rattle.reader.proofs.Below.{some-at}
-use Rattle.bounds.specs.Ranges.{Peptides, card}
 use Rattle.bounds.specs.Selections.{cause14}
-use Rattle.bounds.proofs.Members.{bit}
 
 -- Cause 14.
 
@@ -42,18 +38,3 @@ module _ (m : ℕ) (selection : List ℕ) where
   right-length h =
       eqb-true (length selection) m
       (not-false (eqb (length selection) m) (or-fails-l (not (eqb (length selection) m)) (someBelow (length selection) (overOne selection)) h))
-
--- Passing one more peptide.
-pub card-next : (n : ℕ) (X : Peptides) → card (n + 1) X ≡ card n X + bit (X (suc n))
-unfolding card
-card-next n X = rw add-one
-
-pub bit-few : (b : Bool) → bit b ≤ 1
-bit-few true = omega arith
-bit-few false = omega arith
-
--- there are no more selected peptides than peptides
-pub card-most : (n : ℕ) (X : Peptides) → card n X ≤ n
-unfolding card
-card-most zero X = omega arith
-card-most (suc n) X = omega (arith, card-most n X, bit-few (X (suc n)))

@@ -24,8 +24,8 @@ use Rattle.bounds.proofs.Members.{test, le-or-lt, clash, both-ways, and
 use Rattle.bounds.proofs.Nesting.{Inside, inside-trans, AtOrIn, widest}
 use Rattle.bounds.proofs.Laminar.{line, line-around}
 use Rattle.bounds.proofs.Taken.{Taken, taken-facts, taken-holds, full-facts, full-holds}
-use Rattle.bounds.proofs.Family.{noRange, ranges-length, range-at}
-use Rattle.bounds.proofs.RowTotals.{range-z, member-at, at-member, inside-before, inside-block}
+use Rattle.bounds.proofs.Family.{noRange, ranges-length, range-at, range-z, of-region, range-in}
+use Rattle.bounds.proofs.RowTotals.{inside-before, inside-block}
 
 -- Lists written by their places.
 
@@ -88,10 +88,10 @@ module _ {F : Family} (w : WellFormed F) (S : Peptides) (T : List ℕ)
       let R = rangesOf F in
       let every = line-around m R .every in
       let v = widest R (full m R S) (line m R) q i (full-holds m R S q over) (every q i) in
-      let (k, l, e) = member-at w (v .it) (v .member) in
+      let n = of-region F (v .it) (v .member) in
       let t : Taken m R S (v .it) =
       record { over = full-facts m R S (v .it) (v .passes); outermost = λ x j n h. v .last x j (full-holds m R S x h) n (every x j) } in
-      (k, l, rw e at (taken-holds t), rw e at (v .around))
+      (n .at, n .few, rw (n .is) at (taken-holds t), rw (n .is) at (v .around))
 
   -- what the last leaf of the latest taken region says of the first k
   record Until (k u : ℕ) : Type 0 where
@@ -115,7 +115,7 @@ module _ {F : Family} (w : WellFormed F) (S : Peptides) (T : List ℕ)
         inner f =
             let i = f .0 in
             let own = taken-facts (F .peptides) (rangesOf F) S (rangeAt F i) (f .2) in
-            taken-facts (F .peptides) (rangesOf F) S (rangeAt F k) e .outermost (rangeAt F i) (at-member w i (omega (arith, f .1)))
+            taken-facts (F .peptides) (rangesOf F) S (rangeAt F k) e .outermost (rangeAt F i) (range-in F i (omega (arith, f .1)))
             (inside-block w k i (f .1) l (omega (arith, f .3))) (own .over)
 
     begins : takes F k (getD T k 0) u ≡ true → u < region F k .first

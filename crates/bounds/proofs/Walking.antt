@@ -1,47 +1,33 @@
 -- The walk along a path: what the regions can take, the marks and the entries after each step.
 use Prim.Native.Nat.{ℕ, zero, suc, _+_, _-_, _*_, _<_, _≤_}
-use mathlib.Core.Bool.{Bool, true, false, not, cond, _&&_}
+use mathlib.Core.Bool.{Bool, true, false, not, cond}
 use mathlib.Core.List.{List, [], _∷_, _++_}
-use mathlib.Core.Logic.{_⊎_, ⊎-elim}
+use mathlib.Core.Logic.{⊎-elim}
 use mathlib.Core.Path.{_≡_, refl, sym, ap, subst, _∙_}
 use native.Mathlib.Nat.{mul-le-mul}
 use native.Mathlib.Numerals.{add-one}
 use native.Mathlib.Omega.{arith}
-use lib.ListN.{length, getD, take, drop, set, List·getD-append}
-use lib.Seq.{take-suc, getD-take, drop-cons, set-at, append-snoc, length-take-le, drop-set-lt}
+use lib.ListN.{length, getD, drop, set, List·getD-append}
+use lib.Seq.{drop-cons, set-at, append-snoc, drop-set-lt}
 use lib.Dec.{leb, eqb}
-use borrow.Author.Tests.{eqb-true, eq-eqb, ne-eqb}
+use borrow.Author.Tests.{eqb-true, eq-eqb}
 use Rattle.reader.specs.Lists.{tabulate}
 use Rattle.reader.specs.Family.{Family, leaves, regionCount, region, leafOf}
 use Rattle.reader.specs.WellFormed.{WellFormed}
 use Rattle.reader.proofs.Below.{some-at, found}
 use Rattle.reader.proofs.Lists.{length-tabulate, getD-tabulate}
 use Rattle.reader.proofs.Walk.{FirstReaching, leaf-found}
-use Rattle.bounds.specs.Ranges.{Range, Peptides, rangeOf, rangeAt, rangesOf, has, count, In}
-use Rattle.bounds.specs.Curves.{among, entry, markAt, curveMarks, largestUpTo}
+use Rattle.bounds.specs.Ranges.{Peptides, rangeOf, rangeAt, rangesOf, has, count}
+use Rattle.bounds.specs.Curves.{entry, markAt, curveMarks, largestUpTo}
 use Rattle.bounds.specs.Paths.{Distinct}
 use Rattle.bounds.specs.Walks.{holdsLeaf, crowded, MarkedNext, marksUpTo, MarksOf}
-use Rattle.bounds.proofs.Members.{test, clash, refuted, both-ways, and-l, and-r, and-both, bit, le-or-lt, place}
-use Rattle.bounds.proofs.Counting.{none, card-none, adding, count-none, count-adding, count-adding-other}
+use Rattle.bounds.proofs.Members.{test, both-ways, and-l, and-r, and-both, bit, le-or-lt, bit-few}
+use Rattle.bounds.proofs.Counting.{none, adding, count-none, count-adding, count-adding-other}
 use Rattle.bounds.proofs.Nesting.{has-facts, has-holds}
-use Rattle.bounds.proofs.Greedy.{blocked, blocked-facts, blocked-holds, afterStep, among-facts, greedy, greedy-snoc, greedy-new}
-use Rattle.bounds.proofs.Paths.{path-bound, entry-step}
-use Rattle.bounds.proofs.Selecting.{bit-few}
-use Rattle.bounds.proofs.Family.{upTo-mono, noRange, ranges-length, range-at, range-in, family-laminar}
+use Rattle.bounds.proofs.Greedy.{blocked, blocked-facts, blocked-holds, greedy}
+use Rattle.bounds.proofs.Family.{upTo-mono, range-in, of-region}
 use Rattle.bounds.proofs.Holding.{crowdedAt, holds-facts, from-holds}
-
--- The ranges of a family, by the numbers of its regions.
-
--- the range is that of a region
-pub record OfRegion (F : Family) (r : Range) : Type 0 where
-  pub at : ℕ
-  pub few : at < regionCount F
-  pub is : r ≡ rangeAt F at
-
-pub of-region : (F : Family) (r : Range) → In r (rangesOf F) → OfRegion F r
-of-region F r i =
-    let p = place (noRange F) (rangesOf F) r i in
-    record { at = p .at; few = omega (arith, p .inRange, ranges-length F); is = p .there ∙ range-at F (p .at) }
+use Rattle.bounds.proofs.Marks.{markedSet, stops, marked-stays, marked-grows, entry-next, mark-is, entry-start, not-marked}
 
 module _ {F : Family} (w : WellFormed F) where
   -- A region has a peptide exactly if it holds the peptide's leaf.
@@ -117,95 +103,39 @@ module _ {F : Family} (w : WellFormed F) (G : Peptides) (S : List ℕ) (spare : 
 -- A path of different peptides.
 
 module _ {F : Family} {path : List ℕ} (well : WellFormed F) (is : Distinct (F .peptides) path) where
-  -- the peptides marked among the first t
-  abbrev pub markedSet : ℕ → Peptides
-  markedSet t = greedy (F .peptides) (rangesOf F) none (take t path)
-
-  -- what stands at place t stands nowhere before it
-  not-before : (t : ℕ) → t < length path → In (getD path t 0) (take t path) → ⊥
-  not-before t h i =
-      let q = place 0 (take t path) (getD path t 0) i in
-      let l : q .at < t = omega (arith, q .inRange, length-take-le t path (omega arith)) in
-      is .differ (q .at) t l h (sym (q .there ∙ getD-take t path (q .at) 0 l))
-
-  not-among : (t : ℕ) → t < length path → among (take t path) (getD path t 0) ≡ false
-  not-among t h = refuted (among (take t path) (getD path t 0)) (λ e. not-before t h (among-facts (take t path) (getD path t 0) e))
-
-  not-marked : (t : ℕ) → t < length path → markedSet t (getD path t 0) ≡ false
-  not-marked t h =
-      refuted (markedSet t (getD path t 0))
-      (λ e. ⊎-elim (λ i. not-before t h i) (λ n. clash n refl) (greedy-new (F .peptides) (rangesOf F) none (take t path) (getD path t 0) e))
-
-  -- the set after one more place
-  marked-next : (t : ℕ) → t < length path → markedSet (suc t) ≡ afterStep (F .peptides) (rangesOf F) (markedSet t) (getD path t 0)
-  marked-next t h = ap (greedy (F .peptides) (rangesOf F) none) (take-suc path t 0 h) ∙ greedy-snoc (F .peptides) (rangesOf F) none (take t path) (getD path t 0)
-
-  -- a region that holds the next peptide has as many marked as its z
-  abbrev pub stops : ℕ → Bool
-  stops t = blocked (F .peptides) (rangesOf F) (markedSet t) (getD path t 0)
-
-  pub marked-stays : (t : ℕ) → t < length path → stops t ≡ true → markedSet (suc t) ≡ markedSet t
-  unfolding afterStep
-  marked-stays t h e = marked-next t h ∙ rw e
-
-  pub marked-grows : (t : ℕ) → t < length path → stops t ≡ false → markedSet (suc t) ≡ adding (getD path t 0) (markedSet t)
-  unfolding afterStep
-  marked-grows t h e = marked-next t h ∙ rw e
-
-  -- entry t + 1 is entry t, or one more
-  pub entry-next : (t : ℕ) → t < length path → entry F path (suc t) ≡ entry F path t + bit (not (stops t))
-  unfolding entry
-  entry-next t h = entry-step (family-laminar well) path t h (is .some t h) (is .most t h) (not-among t h)
-
-  pub mark-is : (t : ℕ) → t < length path → markAt F path (t + 1) ≡ bit (not (stops t))
-  unfolding markAt
-  mark-is t h =
-      let e : entry F path (t + 1) ≡ entry F path t + bit (not (stops t)) = rw add-one (entry-next t h) in
-      let back : t + 1 - 1 ≡ t = omega arith in
-      ⊎-elim
-      (λ s.
-      rw (back, ne-eqb (entry F path (t + 1)) (entry F path t + 1) (λ q. omega (arith, rw s at e)), s))
-      (λ s.
-      rw (back, eq-eqb (entry F path (t + 1)) (entry F path t + 1) (omega (arith, rw s at e)), s))
-      (test (stops t))
-
-  pub entry-start : entry F path 0 ≡ 0
-  unfolding entry greedy
-  entry-start = sym (path-bound (family-laminar well) []) ∙ card-none (F .peptides) none (λ p l u. refl)
-
   -- One step: the mark is right, and so is what the regions can take after it.
   pub record RightStep (t : ℕ) (D : List ℕ) (marked : ℕ) : Type 0 where
     pub right : marked ≡ markAt F path (t + 1)
-    pub spare : SpareFor F (markedSet (t + 1)) D
+    pub spare : SpareFor F (markedSet well is (t + 1)) D
 
-  module _ (t : ℕ) (h : t < length path) (S D : List ℕ) (marked : ℕ) (spare : SpareFor F (markedSet t) S) (s : MarkedNext F S (getD path t 0) D marked) where
-    marked-bit : marked ≡ bit (not (stops t))
-    marked-bit = s .marked ∙ rw (crowded-blocked well (markedSet t) S spare (getD path t 0) (is .some t h) (is .most t h)) (flip (stops t))
+  module _ (t : ℕ) (h : t < length path) (S D : List ℕ) (marked : ℕ) (spare : SpareFor F (markedSet well is t) S) (s : MarkedNext F S (getD path t 0) D marked) where
+    marked-bit : marked ≡ bit (not (stops well is t))
+    marked-bit = s .marked ∙ rw (crowded-blocked well (markedSet well is t) S spare (getD path t 0) (is .some t h) (is .most t h)) (flip (stops well is t))
       where
         flip : (b : Bool) → cond b 0 1 ≡ bit (not b)
         flip true = refl
         flip false = refl
 
-    spare-next : SpareFor F (markedSet (suc t)) D
+    spare-next : SpareFor F (markedSet well is (suc t)) D
     spare-next =
         ⊎-elim
         (λ e.
-        rw (marked-stays t h e)
-        (spare-stays well (markedSet t) S spare (getD path t 0) (is .some t h) (is .most t h) D (subst (MarkedNext F S (getD path t 0) D) (marked-bit ∙ rw e) s)))
+        rw (marked-stays well is t h e)
+        (spare-stays well (markedSet well is t) S spare (getD path t 0) (is .some t h) (is .most t h) D (subst (MarkedNext F S (getD path t 0) D) (marked-bit ∙ rw e) s)))
         (λ e.
-        rw (marked-grows t h e)
-        (spare-less well (markedSet t) S spare (getD path t 0) (is .some t h) (is .most t h) D (not-marked t h) (subst (MarkedNext F S (getD path t 0) D) (marked-bit ∙ rw e) s)))
-        (test (stops t))
+        rw (marked-grows well is t h e)
+        (spare-less well (markedSet well is t) S spare (getD path t 0) (is .some t h) (is .most t h) D (not-marked well is t h) (subst (MarkedNext F S (getD path t 0) D) (marked-bit ∙ rw e) s)))
+        (test (stops well is t))
 
     pub next : RightStep t D marked
     next =
         record {
-          right = marked-bit ∙ sym (mark-is t h);
+          right = marked-bit ∙ sym (mark-is well is t h);
           spare = rw add-one spare-next;
         }
 
   -- no peptide is marked at the start
-  pub spare-start : (S : List ℕ) → ((k : ℕ) → k < regionCount F → getD S k 0 ≡ region F k .z) → SpareFor F (markedSet 0) S
+  pub spare-start : (S : List ℕ) → ((k : ℕ) → k < regionCount F → getD S k 0 ≡ region F k .z) → SpareFor F (markedSet well is 0) S
   unfolding greedy
   spare-start S whole k h = omega (arith, whole k h, count-none (F .peptides) (rangeAt F k))
 

@@ -16,9 +16,7 @@ use Rattle.reader.proofs.Below.{below-next}
 use Rattle.bounds.specs.Ranges.{rangeOf, rangesOf, rangeAt}
 use Rattle.bounds.proofs.Members.{test, le-or-lt}
 use Rattle.bounds.proofs.Nesting.{has-facts, has-holds}
-use Rattle.bounds.proofs.Family.{range-in, upTo-mono}
-use Rattle.bounds.proofs.RowTotals.{range-z, leaf-most}
-use Rattle.bounds.proofs.Walking.{of-region}
+use Rattle.bounds.proofs.Family.{range-in, upTo-mono, range-z, leaf-most, of-region}
 use Rattle.reduction.specs.Reduction.{live}
 use Rattle.reduction.specs.Passes.{LiveMarked, LiveUpTo, Reached}
 use Rattle.reduction.proofs.Live.{dead-facts, dead-holds}

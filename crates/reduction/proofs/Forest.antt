@@ -11,8 +11,7 @@ use lib.ListN.{length}
 use borrow.Author.Tests.{eqb-true, eqb-false, eq-eqb, ltb-true, lt-ltb}
 use Rattle.bounds.specs.Ranges.{Range, Peptides, card, some, In}
 use Rattle.bounds.proofs.Members.{some-in, some-found, test, and-l, and-r, and-both, refuted}
-use Rattle.bounds.proofs.Counting.{card-mono, card-less}
-use Rattle.bounds.proofs.Selecting.{card-most}
+use Rattle.bounds.proofs.Counting.{card-mono, card-less, card-most}
 use Rattle.reduction.proofs.Grid.{before-same, before-le, FileOrder}
 use Rattle.reduction.proofs.Plain.{Nest, apart, apart′, within, around}
 

@@ -18,7 +18,7 @@ use Rattle.bounds.specs.Ranges.{Range, Peptides, rangesOf, rangeAt}
 use Rattle.bounds.specs.Selections.{selected}
 use Rattle.bounds.proofs.Members.{test, clash}
 use Rattle.bounds.proofs.Nesting.{has-facts, has-holds}
-use Rattle.bounds.proofs.RowTotals.{range-z}
+use Rattle.bounds.proofs.Family.{range-z}
 use Rattle.reduction.specs.Reduction.{live, livePeptides, firstOf, lastOf}
 use Rattle.reduction.specs.Steps.{firstLive, lastLive}
 use Rattle.reduction.specs.Passes.{LiveUpTo, Next, Nexts, Lasts, ifWithin}

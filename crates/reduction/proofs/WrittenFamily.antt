@@ -10,9 +10,8 @@ use Rattle.reader.specs.Lists.{sum}
 use Rattle.reader.specs.Family.{leaves, regionCount}
 use Rattle.bounds.specs.Ranges.{Range, card, rangesOf, In}
 use Rattle.bounds.proofs.Members.{in-at, clash}
-use Rattle.bounds.proofs.Counting.{card-less, none}
+use Rattle.bounds.proofs.Counting.{card-less, none, card-most}
 use Rattle.bounds.proofs.Family.{ranges-length}
-use Rattle.bounds.proofs.Selecting.{card-most}
 use Rattle.reduction.specs.Reduction.{endsLeaf, leafLengths, writtenFamily}
 use Rattle.reduction.proofs.Leaves.{leaves-count, leaves-positive, peptides-read}
 use Rattle.reduction.proofs.Plain.{Tidy}

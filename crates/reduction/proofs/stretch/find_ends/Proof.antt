@@ -7,8 +7,7 @@ use denote.Ref.{now}
 use Rattle.reader.specs.Family.{familyOf, leaves, peptidesUpTo}
 use Rattle.reader.proofs.Walk.{nothing-before}
 use Rattle.reduction.specs.Passes.{Begun, Open}
-use Rattle.bounds.proofs.Family.{upTo-leaf}
-use Rattle.bounds.proofs.RowTotals.{leaf-most}
+use Rattle.bounds.proofs.Family.{upTo-leaf, leaf-most}
 use Rattle.reduction.proofs.OpenRegions.{none-begun, none-open, regions-begin, ends-found}
 use borrow.Author.Needs.{needs}
 use Rattle.reduction.proofs.stretch.find_ends.Statement.{statement}
