@@ -1,21 +1,21 @@
 -- What the calls with a path answer and write, by the first cause that holds.
-use Prim.Native.Nat.{ℕ, _+_}
+use Prim.Native.Nat.{ℕ, _+_, _≤_}
 use mathlib.Core.Bool.{Bool, true, false, not, _||_}
 use mathlib.Core.List.{List, [], _∷_, _++_}
 use mathlib.Core.Path.{_≡_, refl, sym, ap, _∙_}
 use native.Mathlib.Omega.{arith}
 use lib.ListN.{length, drop}
 use lib.Dec.{eqb}
-use borrow.Author.Tests.{eq-eqb, ne-eqb}
+use borrow.Author.Tests.{eq-eqb, ne-eqb, le-ltb}
 use Rattle.reader.specs.Family.{Family, familyOf}
-use Rattle.reader.specs.Causes.{Cause, firstCause, headerCauses, familyCauses, fileCauses}
+use Rattle.reader.specs.Causes.{Cause, firstCause, headerCauses, familyCauses, fileCauses, Accepted}
 use Rattle.reader.specs.Calls.{Report}
 use Rattle.reader.proofs.Bools.{not-passes, not-fails}
 use Rattle.reader.proofs.Lists.{length-tabulate}
 use Rattle.reader.proofs.First.{Numbered, first-holds, first-fails, join-clear, join-holds, answers, declines, writes, leaves-unchanged}
 use Rattle.bounds.specs.Curves.{curveValues, curveMarks, cutOf, entry, markAt, cause15}
-use Rattle.bounds.specs.Calls.{Answers, short, pathCauses, inputCauses, curveCauses, cutCauses, CurveValuesWrites, CurveMarksWrites}
-use Rattle.bounds.proofs.PathLaws.{RepeatedAt}
+use Rattle.bounds.specs.Calls.{Answers, IsPath, short, pathCauses, inputCauses, curveCauses, cutCauses, CurveValuesWrites, CurveMarksWrites}
+use Rattle.bounds.proofs.PathLaws.{RepeatedAt, input-path}
 
 module _ (cs : List Cause) (path result : List ℕ) where
   pub answers-with : firstCause cs ≡ 0 → Answers cs path result (record { number = 0; values = result })
@@ -62,6 +62,14 @@ module _ (file path : List ℕ) (c : Cause) where
 -- The curve.
 
 module _ (file path values marks : List ℕ) where
+  -- with a path, and room for the values and the marks, no cause holds
+  pub curve-clear : Accepted file → IsPath (familyOf file .peptides) path → length path + 1 ≤ length values → length path ≤ length marks
+      → firstCause (curveCauses file path values marks) ≡ 0
+  unfolding curveCauses short
+  curve-clear a is more room =
+      none-holds file path _ (input-path file path a ∙ is)
+      (rw (le-ltb (length values) (length path + 1) more, le-ltb (length marks) (length path) room))
+
   -- the answer, what stands in the lent lists afterwards, and whether the answer is a refusal
   abbrev pub CurveDone : Report → List ℕ → List ℕ → Bool → Type 0
   CurveDone r v w declined =

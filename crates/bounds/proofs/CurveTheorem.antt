@@ -45,7 +45,7 @@ pub record CurveAt (F : Family) (path : List ℕ) (t : ℕ) : Type 0 where
 
 -- The curve and the marks by their places.
 
-value-at : (F : Family) (path : List ℕ) (t : ℕ) → t ≤ length path → getD (curveValues F path) t 0 ≡ entry F path t
+pub value-at : (F : Family) (path : List ℕ) (t : ℕ) → t ≤ length path → getD (curveValues F path) t 0 ≡ entry F path t
 unfolding curveValues
 value-at F path t h = getD-tabulate (length path + 1) (entry F path) 0 t (omega arith)
 

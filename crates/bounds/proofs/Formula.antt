@@ -9,7 +9,7 @@ use native.Mathlib.Omega.{arith}
 use Rattle.bounds.specs.Ranges.{Range, Peptides, has, card, count, those, parts, outside, In}
 use Rattle.bounds.specs.Bound.{total, value, bound, IsLargest}
 use Rattle.bounds.proofs.Members.{test, le-or-lt, clash, and-l, and-r, and-both, ands, in-those, those-in, sum-mono}
-use Rattle.bounds.proofs.Counting.{Subset, none, card-mono, count-mono, Contains, cover-in, partition-in}
+use Rattle.bounds.proofs.Counting.{Subset, SameSet, none, card-mono, count-mono, Contains, cover-in, partition-in}
 use Rattle.bounds.proofs.Nesting.{Inside, inside-trans, Part, part-facts, inner, inner-facts, inner-holds, Below, inward}
 use Rattle.bounds.proofs.Laminar.{Laminar, meet, Hosts, member-hosts, parts-apart, in-a-part, Around, around-hosts, around-count, line, line-around}
 use Rattle.bounds.proofs.Totals.{total-is, bound-is}
@@ -198,3 +198,7 @@ bound-mono {m} {R} l S X h =
     let G = f .witness in
     let more = card-mono m (λ p. G p && S p) (λ p. G p && X p) (λ p a b e. search (ands, h)) in
     omega (arith, f .reached, formula3 l X .atMost G (f .admissible))
+
+-- Selections that agree on 1 to m have the same bound.
+pub bound-same : {m : ℕ} {R : List Range} → Laminar m R → (S X : Peptides) → SameSet m S X → bound m R S ≡ bound m R X
+bound-same l S X h = omega (arith, bound-mono l S X (λ p a b e. rw (h p a b) at e), bound-mono l X S (λ p a b e. rw (h p a b) e))

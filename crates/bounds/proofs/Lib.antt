@@ -21,3 +21,4 @@ pub mod Walking
 pub mod PathLaws
 pub mod Answering
 pub mod CurveTheorem
+pub mod DemandTwo

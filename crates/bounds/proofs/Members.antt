@@ -5,7 +5,7 @@ use mathlib.Core.List.{List, [], _∷_}
 use mathlib.Core.Logic.{_⊎_, inl, inr, ⊎-elim}
 use mathlib.Core.Path.{_≡_, refl, sym, ap}
 use native.Mathlib.Omega.{arith}
-use lib.Dec.{leb}
+use lib.Dec.{eqb, leb}
 use lib.ListN.{length, getD}
 use borrow.Author.Tests.{leb-true, leb-false, not-true}
 pub use Rattle.reader.proofs.Bools.{test, clash, refuted, both-ways, and-l, and-r, and-both, ands, or-l, or-r, or-either}
@@ -27,6 +27,10 @@ bit-few false = omega arith
 pub bit-mono : (a b : Bool) → (a ≡ true → b ≡ true) → bit a ≤ bit b
 bit-mono true b h = rw (h refl) (omega arith)
 bit-mono false b h = omega arith
+
+pub eqb-bit : (b : Bool) → eqb (bit b) 1 ≡ b
+eqb-bit true = refl
+eqb-bit false = refl
 
 -- Members of a list.
 

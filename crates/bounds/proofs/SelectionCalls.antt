@@ -6,7 +6,7 @@ use mathlib.Core.Path.{_≡_, sym, ap, _∙_}
 use native.Mathlib.Omega.{arith}
 use lib.Dec.{ltb}
 use lib.ListN.{length, drop}
-use borrow.Author.Tests.{ltb-false}
+use borrow.Author.Tests.{ltb-false, le-ltb}
 use Rattle.reader.specs.Bytes.{IsBytes}
 use Rattle.reader.specs.Family.{familyOf, regionCount}
 use Rattle.reader.specs.Causes.{firstCause, fileCauses, Accepted}
@@ -34,6 +34,10 @@ module _ (file selection : List ℕ) (room : ℕ) where
       → firstCause (causesWithRoom file selection room) ≡ cond (ltb room (regionCount (familyOf file))) 16 0
   unfolding causesWithRoom short firstCause
   cause-16 a h = join-clear (fileCauses file) _ (file-numbered file) a ∙ rw h
+
+  pub selection-clear : Accepted file → cause14 (familyOf file .peptides) selection ≡ false → regionCount (familyOf file) ≤ room
+      → firstCause (causesWithRoom file selection room) ≡ 0
+  selection-clear a h l = cause-16 a h ∙ rw (le-ltb room (regionCount (familyOf file)) l)
 
   -- Where none holds, the file is accepted, the selection has m bytes, and there is room.
   pub none-holds : firstCause (causesWithRoom file selection room) ≡ 0

@@ -1,18 +1,19 @@
 -- The taken ranges: their z, and the selected peptides in none of them, add up to the bound.
 use Prim.Native.Nat.{ℕ, _+_, _≤_, _<_}
-use mathlib.Core.Bool.{Bool, true, false, not, _&&_}
-use mathlib.Core.List.{List}
-use mathlib.Core.Logic.{⊎-elim}
-use mathlib.Core.Path.{_≡_, ap}
+use mathlib.Core.Bool.{Bool, true, false, not, cond, _&&_}
+use mathlib.Core.List.{List, [], _∷_, _++_, map}
+use mathlib.Core.Logic.{inl, inr, ⊎-elim}
+use mathlib.Core.Path.{_≡_, refl, ap}
 use native.Mathlib.Omega.{arith}
+use lib.Dec.{eqb}
 use borrow.Author.Tests.{ltb-true, lt-ltb}
 use Rattle.bounds.specs.Ranges.{Range, Peptides, has, card, count, some, those, sumOver, inside, outside, In}
-use Rattle.bounds.specs.Bound.{total, bound, full, isTaken}
-use Rattle.bounds.proofs.Members.{test, le-or-lt, clash, and-l, and-r, and-both, ands, some-in, nowhere-facts, nowhere-holds, in-those, those-in, sum-same}
-use Rattle.bounds.proofs.Counting.{Subset, card-mono, adding, adding-either, count-mono, count-adding, Apart, partition}
+use Rattle.bounds.specs.Bound.{total, bound, full, isTaken, named, takenSum}
+use Rattle.bounds.proofs.Members.{test, le-or-lt, clash, and-l, and-r, and-both, ands, some-in, nowhere-facts, nowhere-holds, in-those, those-in, sum-mono, sum-same, eqb-bit}
+use Rattle.bounds.proofs.Counting.{Subset, card-mono, adding, adding-either, count-mono, count-adding, Apart, cover, partition}
 use Rattle.bounds.proofs.Nesting.{Inside, inside-facts, inside-holds, inner, inner-facts, Below, inward, widest}
 use Rattle.bounds.proofs.Laminar.{Laminar, member-hosts, flat-apart, line, line-around}
-use Rattle.bounds.proofs.Greedy.{Stopped, Fills, Walked, blocked, blocked-facts, open-respects}
+use Rattle.bounds.proofs.Greedy.{Respects, Stopped, Fills, Walked, blocked, blocked-facts, open-respects}
 use Rattle.bounds.proofs.Formula.{at-most, stopped-outer, stopped-under, at-least, walked-bound, chosen-walked, chosen-selected}
 
 -- The tests as facts.
@@ -135,3 +136,34 @@ taken-bound {m} {R} l S =
     let w = chosen-walked m R S in
     let sub = chosen-selected m R S in
     omega (arith, walked-bound l w sub, walked-taken l w sub)
+
+-- The ranges that bytes name.
+
+named-in : (bytes : List ℕ) (R : List Range) (r : Range) → In r (named bytes R) → In r R
+unfolding named
+named-in [] R r i = absurd i
+named-in (b ∷ bytes) [] r i = absurd i
+named-in (b ∷ bytes) (q ∷ R) r i = go (eqb b 1) i (named-in bytes R r)
+  where
+    go : (t : Bool) → In r (cond t (q ∷ named bytes R) (named bytes R)) → (In r (named bytes R) → In r R) → In r (q ∷ R)
+    go true (inl e) f = inl e
+    go true (inr j) f = inr (f j)
+    go false j f = inr (f j)
+
+-- bytes from a test name those that pass it, whatever stands after them
+pub named-those : (t : Range → Bool) (R : List Range) (rest : List ℕ) → named (map (λ r. cond (t r) 1 0) R ++ rest) R ≡ those t R
+unfolding named those
+named-those t [] [] = refl
+named-those t [] (b ∷ rest) = refl
+named-those t (r ∷ R) rest = rw (eqb-bit (t r), named-those t R rest)
+
+-- Whatever ranges bytes name, no admissible set has more of the selection than their z, plus the selected peptides in none of them.
+pub named-most : (m : ℕ) (R : List Range) (S A : Peptides) (bytes : List ℕ) → Respects m R A → card m (λ p. A p && S p) ≤ takenSum m R S bytes
+unfolding takenSum
+named-most m R S A bytes h =
+    let both : Peptides = λ p. A p && S p in
+    let Q = named bytes R in
+    let few = sum-mono (count m both) (λ r. r .z) Q
+    (λ r i. omega (arith, h r (named-in bytes R r i), count-mono m both A r (λ p l u k e. search ands))) in
+    let free = card-mono m (λ p. outside Q p && both p) (λ p. outside Q p && S p) (λ p l u e. search ands) in
+    omega (arith, cover m both Q)

@@ -5,7 +5,7 @@ use mathlib.Core.Bool.{Bool, not, cond, _&&_}
 use mathlib.Core.List.{List, [], _∷_, map}
 use mathlib.Core.Path.{_≡_}
 use lib.ListN.{length}
-use lib.Dec.{ltb}
+use lib.Dec.{eqb, ltb}
 use Rattle.bounds.specs.Ranges.{Range, Peptides, card, count, some, sumOver, inside, parts, outermost, outside}
 
 -- The inside total of q: the sum of the values of the ranges just inside it, plus its selected peptides in none of them.
@@ -37,6 +37,16 @@ isTaken m R S r = full m R S r && not (some (λ q. inside r q && full m R S q) R
 -- 1 for a range taken, else 0, in file order
 unfoldable pub takenBytes : ℕ → List Range → Peptides → List ℕ
 takenBytes m R S = map (λ r. cond (isTaken m R S r) 1 0) R
+
+-- the ranges whose byte is 1, the bytes in file order
+unfoldable pub named : List ℕ → List Range → List Range
+named [] R = []
+named (b ∷ bytes) [] = []
+named (b ∷ bytes) (r ∷ R) = cond (eqb b 1) (r ∷ named bytes R) (named bytes R)
+
+-- the z of the ranges whose byte is 1, plus the selected peptides in none of them
+unfoldable pub takenSum : ℕ → List Range → Peptides → List ℕ → ℕ
+takenSum m R S bytes = sumOver (λ r. r .z) (named bytes R) + card m (λ p. outside (named bytes R) p && S p)
 
 -- A is admissible: it has at most z peptides in each range; exactly z is allowed
 abbrev pub Admissible : ℕ → List Range → Peptides → Type 0

@@ -4,6 +4,7 @@ pub mod Bound
 pub mod Selections
 pub mod Curves
 pub mod Calls
+pub mod AcceptedCalls
 pub mod Rows
 pub mod Takes
 pub mod Paths

@@ -6,7 +6,7 @@ use mathlib.Core.Path.{_≡_}
 use lib.ListN.{length, getD, take}
 use lib.Dec.{ltb, eqb}
 use Rattle.reader.specs.Lists.{sum, sameList, someBelow}
-use Rattle.reader.specs.Bytes.{numberAt}
+use Rattle.reader.specs.Bytes.{IsBytes, numberAt}
 use Rattle.reader.specs.Family.{Region, Family, leaves, regionCount, region, familyOf, mark, lengthsOffset, regionsOffset, totalLength}
 use Rattle.reader.specs.Nesting.{before, crossing, regionsAround}
 
@@ -96,3 +96,9 @@ fileCauses s = headerCauses s ++ familyCauses (familyOf s)
 -- none of the causes 1 to 10 holds
 abbrev pub Accepted : List ℕ → Type 0
 Accepted s = firstCause (fileCauses s) ≡ 0
+
+-- bytes that are an accepted file
+pub record AcceptedFile : Type 0 where
+  pub file : List ℕ
+  pub bytes : IsBytes file
+  pub accepted : Accepted file

@@ -11,7 +11,7 @@ use lib.Seq.{take-at, drop-at}
 use Rattle.reader.specs.Lists.{sameList}
 use Rattle.reader.specs.Bytes.{IsBytes, numberAt}
 use Rattle.reader.specs.Family.{regionCount, familyOf}
-use Rattle.reader.specs.Causes.{firstCause, Accepted}
+use Rattle.reader.specs.Causes.{firstCause, Accepted, AcceptedFile}
 use Rattle.reader.specs.Calls.{Report}
 use Rattle.reader.proofs.Bools.{test}
 use Rattle.reader.proofs.Lists.{same-equal, same-is}
@@ -28,12 +28,6 @@ use Rattle.reduction.specs.declared.Compared.the-variants as compared
 use Rattle.reduction.specs.Calls.{reportReduced, reduceCauses, reducedCounts, reportCompared, compareCauses, comparison, ReduceAnswers, ReduceWrites, SameAnswers}
 use Rattle.reduction.proofs.OneFile.{reduced-accepted, reduced-bytes, reduced-file-alike, reduced-file-again, reduced-file-fits, alike-same-file, same-file-alike, smallest-file}
 use Rattle.reduction.proofs.ReduceCalls.{output-suffices, both-accepted}
-
--- an accepted file
-pub record AcceptedFile : Type 0 where
-  pub file : List ℕ
-  pub bytes : IsBytes file
-  pub accepted : Accepted file
 
 -- the answer has the length and the K of the reduced file, which is as many of the first bytes of the output; the rest is unchanged
 pub record AtStart (file out : List ℕ) (r : ReducedFile) (new : List ℕ) : Type 0 where

@@ -16,13 +16,13 @@ use Rattle.reader.proofs.Accepting.{well-formed}
 use Rattle.bounds.specs.Ranges.{Peptides, rangeOf, rangesOf}
 use Rattle.bounds.specs.Bound.{total}
 use Rattle.bounds.specs.Selections.{selected, totalsOf}
-use Rattle.bounds.proofs.Members.{and-l}
+use Rattle.bounds.proofs.Members.{and-l, eqb-bit}
 use Rattle.bounds.proofs.Counting.{SameSet}
 use Rattle.bounds.proofs.Totals.{total-same}
 use Rattle.reduction.specs.Reduction.{live}
 use Rattle.reduction.specs.Steps.{Begins, liveBytes, firstLive, lastLive, firstsLive, lastsLive, Parented, Stretched, Totalled}
 use Rattle.reduction.specs.Keeping.{firstAt, lastAt, WithStretches, totalAt, TotalsBelow, beginsRun}
-use Rattle.reduction.proofs.Selected.{eqb-bit, selected-at}
+use Rattle.reduction.proofs.Selected.{selected-at}
 use Rattle.reduction.proofs.ListFronts.{begins-at, ranges-at, known-parents}
 
 module _ (s : List ℕ) (bytes : IsBytes s) (accepted : Accepted s) where

@@ -13,11 +13,10 @@ use lib.Dec.{eqb}
 use borrow.Author.Tests.{eqb-true, eqb-false}
 use Rattle.reader.specs.Lists.{someBelow}
 use Rattle.bounds.specs.Ranges.{Peptides, card}
-use Rattle.bounds.proofs.Members.{test}
+use Rattle.bounds.proofs.Members.{test, eqb-bit}
 use Rattle.bounds.proofs.Counting.{card-most}
 use Rattle.reduction.specs.Reduction.{rising, lastOf, leafLengths}
 use Rattle.reduction.specs.Writing.{withNumbers, endsAt, Marks, markedIn, Counts, regionNumbers}
-use Rattle.reduction.proofs.Selected.{eqb-bit}
 use Rattle.reduction.proofs.Leaves.{leaves-count}
 use Rattle.reduction.proofs.NumberRows.{numbers-none, numbers-join}
 

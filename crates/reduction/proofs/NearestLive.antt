@@ -16,13 +16,13 @@ use Rattle.reader.specs.Family.{Family, regionCount, region}
 use Rattle.reader.specs.WellFormed.{WellFormed}
 use Rattle.bounds.specs.Ranges.{Range, Peptides, rangesOf, rangeAt}
 use Rattle.bounds.specs.Selections.{selected}
-use Rattle.bounds.proofs.Members.{test, clash}
+use Rattle.bounds.proofs.Members.{test, clash, eqb-bit}
 use Rattle.bounds.proofs.Nesting.{has-facts, has-holds}
 use Rattle.bounds.proofs.Family.{range-z}
 use Rattle.reduction.specs.Reduction.{live, livePeptides, firstOf, lastOf}
 use Rattle.reduction.specs.Steps.{firstLive, lastLive}
 use Rattle.reduction.specs.Passes.{LiveUpTo, Next, Nexts, Lasts, ifWithin}
-use Rattle.reduction.proofs.Selected.{eqb-bit, selected-at}
+use Rattle.reduction.proofs.Selected.{selected-at}
 use Rattle.reduction.proofs.FirstLast.{firstOf-small, firstOf-member, firstOf-is, lastOf-small, lastOf-member, lastOf-atLeast, lastOf-is}
 use Rattle.reduction.proofs.Stretches.{live-in, in-live}
 use Rattle.reduction.proofs.DeadPeptides.{high-small}

@@ -1,16 +1,12 @@
 -- Sets given by bytes: a peptide is in the set exactly if its byte is 1.
 use Prim.Native.Nat.{ℕ, zero, suc, _-_, _≤_}
-use mathlib.Core.Bool.{Bool, true, false, cond}
+use mathlib.Core.Bool.{false}
 use mathlib.Core.List.{List}
 use mathlib.Core.Path.{_≡_, refl, sym, _∙_, ap}
 use native.Mathlib.Omega.{arith}
 use lib.Dec.{eqb}
 use lib.ListN.{length, getD, List·getD-eq-default}
 use Rattle.bounds.specs.Selections.{selected}
-
-pub eqb-bit : (b : Bool) → eqb (cond b 1 0) 1 ≡ b
-eqb-bit true = refl
-eqb-bit false = refl
 
 module _ (X : List ℕ) where
   pub selected-none : false ≡ selected X 0

@@ -1,0 +1,45 @@
+-- Calls of `curve` and `bound` that have nothing to decline: an accepted file, a path or a selection, and room for what is written.
+-- Of the answer and of what the call leaves in the lent lists they hold the promises, as the contracts have them.
+use Prim.Native.Nat.{ℕ, _+_, _≤_}
+use mathlib.Core.Bool.{false}
+use mathlib.Core.List.{List}
+use mathlib.Core.Path.{_≡_}
+use lib.ListN.{length}
+use Rattle.reader.specs.Family.{familyOf, regionCount}
+use Rattle.reader.specs.Causes.{AcceptedFile}
+use Rattle.bounds.specs.Selections.{cause14}
+use Rattle.bounds.specs.declared.Bounded.{Bounded}
+use Rattle.bounds.specs.declared.Curved.{Curved}
+use Rattle.bounds.specs.Calls.{IsPath, BoundAnswers, TakenWrites, CurveValuesWrites, CurveMarksWrites, CurveDeclines}
+
+-- a call of `curve`
+pub record CurveCall (f : AcceptedFile) : Type 0 where
+  pub path : List ℕ
+  pub is-path : IsPath (familyOf (f .file) .peptides) path
+  -- the lent lists before it
+  pub old-values : List ℕ
+  pub old-marks : List ℕ
+  pub values-room : length path + 1 ≤ length old-values
+  pub marks-room : length path ≤ length old-marks
+  -- its answer, and the lists after it
+  pub answer : Curved
+  pub values : List ℕ
+  pub marks : List ℕ
+  -- its promises
+  pub declines : CurveDeclines (f .file) path old-values old-marks answer
+  pub writes-values : CurveValuesWrites (f .file) path old-values old-marks values
+  pub writes-marks : CurveMarksWrites (f .file) path old-values old-marks marks
+
+-- a call of `bound`
+pub record BoundCall (f : AcceptedFile) : Type 0 where
+  pub selection : List ℕ
+  pub is-selection : cause14 (familyOf (f .file) .peptides) selection ≡ false
+  -- the lent list before it
+  pub old-taken : List ℕ
+  pub taken-room : regionCount (familyOf (f .file)) ≤ length old-taken
+  -- its answer, and the list after it
+  pub answer : Bounded
+  pub taken : List ℕ
+  -- its promises
+  pub answers : BoundAnswers (f .file) selection old-taken answer
+  pub writes-taken : TakenWrites (f .file) selection old-taken taken
