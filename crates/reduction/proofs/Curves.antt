@@ -1,4 +1,4 @@
--- Equal curves and equal admissible sets are the same thing.
+-- Equal curves, equal admissible sets and equal bounds are the same thing.
 use Prim.Native.Nat.{ℕ, _+_, _≤_, _<_}
 use mathlib.Core.Bool.{false, _&&_}
 use mathlib.Core.List.{List}
@@ -12,14 +12,16 @@ use Rattle.reader.proofs.Lists.{getD-tabulate}
 use Rattle.reader.proofs.Bools.{passes}
 use Rattle.bounds.specs.Ranges.{Range, Peptides, rangesOf, card}
 use Rattle.bounds.specs.Bound.{bound, IsLargest}
+use Rattle.bounds.specs.Selections.{selected, boundOf}
 use Rattle.bounds.specs.Curves.{among, entry, curveValues}
 use Rattle.bounds.proofs.Members.{clash, and-l, and-r, and-both, refuted}
 use Rattle.bounds.proofs.Counting.{Subset, card-mono, card-less, count-mono}
 use Rattle.bounds.proofs.Laminar.{Laminar}
 use Rattle.bounds.proofs.Greedy.{Respects, respects-facts}
-use Rattle.bounds.proofs.Formula.{formula3, bound-most}
+use Rattle.bounds.proofs.Formula.{formula3, bound-most, bound-same}
 use Rattle.bounds.specs.Calls.{IsPath}
-use Rattle.reduction.specs.Alike.{Alike}
+use Rattle.reduction.specs.Alike.{Alike, SameBounds}
+use Rattle.reduction.proofs.Selected.{setBytes, set-selection, set-selected}
 use Rattle.reduction.proofs.Listing.{listing, among-listing, listing-among, listing-path}
 use Rattle.reduction.proofs.Live.{SameAdmissible}
 
@@ -78,29 +80,53 @@ last-entry F path =
     ∙ ap (λ l. bound (F .peptides) (rangesOf F) (among l)) (take-length path)
 
 module _ (F G : Family) (lF : Laminar (F .peptides) (rangesOf F)) (lG : Laminar (G .peptides) (rangesOf G)) where
-  -- Families with the same curves have the same admissible sets,
-  pub alike-admissible : Alike F G → SameAdmissible (F .peptides) (rangesOf F) (rangesOf G)
-  alike-admissible a =
+  -- the set has the same bound in both
+  abbrev Equal : Peptides → Type 0
+  Equal S = bound (F .peptides) (rangesOf F) S ≡ bound (G .peptides) (rangesOf G) S
+
+  paths-admissible : F .peptides ≡ G .peptides → ((path : List ℕ) → IsPath (F .peptides) path → Equal (among path))
+      → SameAdmissible (F .peptides) (rangesOf F) (rangesOf G)
+  paths-admissible e same =
       record {
         there = bounds-admissible lF lG′ (λ path h. omega (arith, last path h));
         back = bounds-admissible lG′ lF (λ path h. omega (arith, last path h));
       }
     where
       lG′ : Laminar (F .peptides) (rangesOf G)
-      lG′ = rw (a .peptides) lG
+      lG′ = rw e lG
 
       last : (path : List ℕ) → IsPath (F .peptides) path
           → bound (F .peptides) (rangesOf F) (among path) ≡ bound (F .peptides) (rangesOf G) (among path)
-      last path h =
-          sym (last-entry F path) ∙ ap (λ l. getD l (length path) 0) (a .curves path h) ∙ last-entry G path
-          ∙ ap (λ n. bound n (rangesOf G) (among path)) (sym (a .peptides))
+      last path h = same path h ∙ ap (λ n. bound n (rangesOf G) (among path)) (sym e)
+
+  admissible-equal : F .peptides ≡ G .peptides → SameAdmissible (F .peptides) (rangesOf F) (rangesOf G) → (S : Peptides) → Equal S
+  admissible-equal e same S = same-bounds lF (rw e lG) same S ∙ ap (λ n. bound n (rangesOf G) S) e
+
+  -- Families with the same curves have the same admissible sets,
+  pub alike-admissible : Alike F G → SameAdmissible (F .peptides) (rangesOf F) (rangesOf G)
+  alike-admissible a =
+      paths-admissible (a .peptides)
+      (λ path h. sym (last-entry F path) ∙ ap (λ l. getD l (length path) 0) (a .curves path h) ∙ last-entry G path)
 
   -- and families with the same admissible sets have the same curves.
   pub admissible-alike : F .peptides ≡ G .peptides → SameAdmissible (F .peptides) (rangesOf F) (rangesOf G) → Alike F G
   unfolding curveValues entry
-  admissible-alike e same = record { peptides = e; curves = λ path h. ap (tabulate (length path + 1)) (fun-ext (entries path)) }
+  admissible-alike e same =
+      record { peptides = e; curves = λ path h. ap (tabulate (length path + 1)) (fun-ext (λ t. admissible-equal e same (among (take t path)))) }
+
+  -- Families with the same bounds have the same curves, since a set has the bound of its bytes,
+  pub bounds-alike : SameBounds F G → Alike F G
+  unfolding boundOf
+  bounds-alike s = admissible-alike (s .peptides) (paths-admissible (s .peptides) (λ path h. all (among path)))
     where
-      entries : (path : List ℕ) (t : ℕ) → entry F path t ≡ entry G path t
-      entries path t =
-          let S = among (take t path) in
-          same-bounds lF (rw e lG) same S ∙ ap (λ n. bound n (rangesOf G) S) e
+      all : (S : Peptides) → Equal S
+      all S =
+          let m : ℕ = F .peptides in
+          bound-same lF S (selected (setBytes m S)) (λ p l u. sym (set-selected m S p l u))
+          ∙ s .bounds (setBytes m S) (set-selection m S)
+          ∙ bound-same lG (selected (setBytes m S)) S (λ p l u. set-selected m S p l (rw (s .peptides) u))
+
+  -- and families with the same curves have the same bounds.
+  pub alike-bounds : Alike F G → SameBounds F G
+  unfolding boundOf
+  alike-bounds a = record { peptides = a .peptides; bounds = λ selection h. admissible-equal (a .peptides) (alike-admissible a) (selected selection) }

@@ -1,5 +1,6 @@
 -- Demand 3: the reduced file is the one form of a family. Every sentence of it, over all accepted files.
--- `Alike F G` says that F and G have the same number m of peptides and, for every path, the same curve.
+-- `Alike F G` says that F and G have the same number m of peptides and, for every path, the same curve; `SameBounds F G` that they have the
+-- same m and, for every selection, the same bound.
 use Prim.Native.Nat.{ℕ, _≤_}
 use mathlib.Core.Bool.{Bool}
 use mathlib.Core.List.{List, [], _∷_}
@@ -10,22 +11,26 @@ use lib.ListN.{length, take, drop}
 use lib.Seq.{take-at, drop-at}
 use Rattle.reader.specs.Lists.{sameList}
 use Rattle.reader.specs.Bytes.{IsBytes, numberAt}
-use Rattle.reader.specs.Family.{regionCount, familyOf}
+use Rattle.reader.specs.Family.{Family, regionCount, familyOf}
 use Rattle.reader.specs.Causes.{firstCause, Accepted, AcceptedFile}
 use Rattle.reader.specs.Calls.{Report}
 use Rattle.reader.proofs.Bools.{test}
 use Rattle.reader.proofs.Lists.{same-equal, same-is}
-use Rattle.reader.proofs.First.{answers, writes}
+use Rattle.reader.proofs.First.{answers, writes, learns-values}
+use Rattle.reader.proofs.Parsed.{regions-read}
 use Rattle.reader.proofs.Judged.{laid-down}
 use Rattle.reader.proofs.Accepting.{accepted-header}
 use Rattle.bounds.proofs.Members.{bit}
+use Rattle.bounds.proofs.Family.{accepted-laminar}
 use Rattle.reduction.specs.Reduction.{reducedFile}
-use Rattle.reduction.specs.Alike.{Alike}
+use Rattle.reduction.specs.Alike.{Alike, SameBounds}
 use Rattle.reduction.specs.declared.ReducedFile.{ReducedFile}
 use Rattle.reduction.specs.declared.ReducedFile.the-variants as made
 use Rattle.reduction.specs.declared.Compared.{Compared}
 use Rattle.reduction.specs.declared.Compared.the-variants as compared
 use Rattle.reduction.specs.Calls.{reportReduced, reduceCauses, reducedCounts, reportCompared, compareCauses, comparison, ReduceAnswers, ReduceWrites, SameAnswers}
+use Rattle.reduction.proofs.Curves.{bounds-alike, alike-bounds}
+use Rattle.reduction.proofs.OneForm.{NoLarger}
 use Rattle.reduction.proofs.OneFile.{reduced-accepted, reduced-bytes, reduced-file-alike, reduced-file-again, reduced-file-fits, alike-same-file, same-file-alike, smallest-file}
 use Rattle.reduction.proofs.ReduceCalls.{output-suffices, both-accepted}
 
@@ -34,6 +39,9 @@ pub record AtStart (file out : List ℕ) (r : ReducedFile) (new : List ℕ) : Ty
   pub bytes : ℕ
   pub regions : ℕ
   pub counted : r ≡ made.Written bytes regions
+  pub whole : bytes ≡ length (reducedFile file)
+  -- as they stand in it at offsets 14 and 8
+  pub said-bytes : bytes ≡ numberAt (reducedFile file) 14
   pub said : regions ≡ numberAt (reducedFile file) 8
   pub start : take bytes new ≡ reducedFile file
   pub rest : drop bytes new ≡ drop bytes out
@@ -46,9 +54,12 @@ pub record DemandThree : Type 0 where
   pub keeps-curves : (f : AcceptedFile) → Alike (familyOf (f .file)) (familyOf (reducedFile (f .file)))
   -- It reduces to itself.
   pub again : (f : AcceptedFile) → reducedFile (reducedFile (f .file)) ≡ reducedFile (f .file)
-  -- Two files have equal reduced files exactly when they have the same m and, for every path, the same curve.
+  -- Two files have equal reduced files exactly when they have the same m and, for every path, the same curve,
   pub equal-if-alike : (f g : AcceptedFile) → Alike (familyOf (f .file)) (familyOf (g .file)) → reducedFile (f .file) ≡ reducedFile (g .file)
   pub alike-if-equal : (f g : AcceptedFile) → reducedFile (f .file) ≡ reducedFile (g .file) → Alike (familyOf (f .file)) (familyOf (g .file))
+  -- and exactly when they have the same m and, for every selection, the same bound.
+  pub equal-if-same-bounds : (f g : AcceptedFile) → SameBounds (familyOf (f .file)) (familyOf (g .file)) → reducedFile (f .file) ≡ reducedFile (g .file)
+  pub same-bounds-if-equal : (f g : AcceptedFile) → reducedFile (f .file) ≡ reducedFile (g .file) → SameBounds (familyOf (f .file)) (familyOf (g .file))
   -- Every file with this m and these curves has at least as many regions, and is at least as long.
   pub fewest-regions : (f g : AcceptedFile) → Alike (familyOf (f .file)) (familyOf (g .file))
       → regionCount (familyOf (reducedFile (f .file))) ≤ regionCount (familyOf (g .file))
@@ -57,9 +68,17 @@ pub record DemandThree : Type 0 where
   pub fits : (f : AcceptedFile) → length (reducedFile (f .file)) ≤ length (f .file)
   -- By its two promises `reduce` writes this file,
   pub reduces : (f : AcceptedFile) (out new : List ℕ) (r : ReducedFile) → length (f .file) ≤ length out → ReduceAnswers (f .file) out r → ReduceWrites (f .file) out new → AtStart (f .file) out r new
-  -- and by its promise `same` says yes exactly when the two families are alike.
+  -- and the K and the length that it answers are at most those of any file with this m and these curves.
+  pub fewest-answered : (f g : AcceptedFile) (out : List ℕ) (l k : ℕ) → ReduceAnswers (f .file) out (made.Written l k)
+      → Alike (familyOf (f .file)) (familyOf (g .file)) → k ≤ regionCount (familyOf (g .file))
+  pub shortest-answered : (f g : AcceptedFile) (out : List ℕ) (l k : ℕ) → ReduceAnswers (f .file) out (made.Written l k)
+      → Alike (familyOf (f .file)) (familyOf (g .file)) → l ≤ length (g .file)
+  -- By its promise `same` says yes exactly when the two families are alike,
   pub alike-if-same : (f g : AcceptedFile) (r : Compared) → SameAnswers (f .file) (g .file) r → r ≡ compared.Same → Alike (familyOf (f .file)) (familyOf (g .file))
   pub same-if-alike : (f g : AcceptedFile) (r : Compared) → SameAnswers (f .file) (g .file) r → Alike (familyOf (f .file)) (familyOf (g .file)) → r ≡ compared.Same
+  -- and exactly when they have the same bounds.
+  pub same-bounds-if-same : (f g : AcceptedFile) (r : Compared) → SameAnswers (f .file) (g .file) r → r ≡ compared.Same → SameBounds (familyOf (f .file)) (familyOf (g .file))
+  pub same-if-same-bounds : (f g : AcceptedFile) (r : Compared) → SameAnswers (f .file) (g .file) r → SameBounds (familyOf (f .file)) (familyOf (g .file)) → r ≡ compared.Same
 
 -- The promises.
 
@@ -85,6 +104,8 @@ module _ (f : AcceptedFile) (out : List ℕ) (room : length (f .file) ≤ length
         bytes = l;
         regions = k;
         counted = refl;
+        whole = there;
+        said-bytes = there ∙ sym (length-said f);
         said = cc (ap (λ (r : Report). r .values) e);
         start = ap (take l) left ∙ take-at s (drop (length s) out) l (sym there);
         rest = ap (drop l) left ∙ drop-at s (drop (length s) out) l (sym there) ∙ ap (λ (n : ℕ). drop n out) (sym there);
@@ -92,6 +113,15 @@ module _ (f : AcceptedFile) (out : List ℕ) (room : length (f .file) ≤ length
   reduces-to (made.Refused n) new p w =
       let e = ap (λ (r : Report). length (r .values)) (p ∙ answers (reduceCauses (f .file) out) no-cause (reducedCounts (f .file))) in
       absurd (omega arith)
+
+-- an answer that has a length and a K has those of the reduced file
+counts-said : (f : AcceptedFile) (out : List ℕ) (l k : ℕ) → ReduceAnswers (f .file) out (made.Written l k)
+    → (l ≡ length (reducedFile (f .file))) × (k ≡ regionCount (familyOf (reducedFile (f .file))))
+unfolding reportReduced reducedCounts
+counts-said f out l k p =
+    let s = reducedFile (f .file) in
+    let e = learns-values (reduceCauses (f .file) out) 0 l (k ∷ []) (reducedCounts (f .file)) p .1 in
+    (cc (e, length-said f), cc (e, regions-read s))
 
 module _ (f g : AcceptedFile) where
   abbrev equal : Bool
@@ -121,6 +151,29 @@ module _ (f g : AcceptedFile) where
       absurd (omega arith)
   equal-says (compared.Refused n) p e = let z = ap length (says (compared.Refused n) p) in absurd (omega arith)
 
+-- Two accepted files.
+module _ (f g : AcceptedFile) where
+  abbrev F : Family
+  F = familyOf (f .file)
+
+  abbrev G : Family
+  G = familyOf (g .file)
+
+  alike-equal : Alike F G → reducedFile (f .file) ≡ reducedFile (g .file)
+  alike-equal = alike-same-file (f .file) (g .file) (f .bytes) (g .bytes) (f .accepted) (g .accepted)
+
+  equal-alike : reducedFile (f .file) ≡ reducedFile (g .file) → Alike F G
+  equal-alike = same-file-alike (f .file) (g .file) (f .bytes) (g .bytes) (f .accepted) (g .accepted)
+
+  alike-from-bounds : SameBounds F G → Alike F G
+  alike-from-bounds = bounds-alike F G (accepted-laminar (f .file) (f .bytes) (f .accepted)) (accepted-laminar (g .file) (g .bytes) (g .accepted))
+
+  bounds-from-alike : Alike F G → SameBounds F G
+  bounds-from-alike = alike-bounds F G (accepted-laminar (f .file) (f .bytes) (f .accepted)) (accepted-laminar (g .file) (g .bytes) (g .accepted))
+
+  smallest : Alike F G → NoLarger (familyOf (reducedFile (f .file))) G × (length (reducedFile (f .file)) ≤ length (g .file))
+  smallest = smallest-file (f .file) (g .file) (f .bytes) (g .bytes) (f .accepted) (g .accepted)
+
 pub demand-three : DemandThree
 demand-three =
     record {
@@ -128,18 +181,18 @@ demand-three =
       is-accepted = λ f. reduced-accepted (f .file) (f .bytes) (f .accepted);
       keeps-curves = λ f. reduced-file-alike (f .file) (f .bytes) (f .accepted);
       again = λ f. reduced-file-again (f .file) (f .bytes) (f .accepted);
-      equal-if-alike = equal-if-alike;
-      alike-if-equal = alike-if-equal;
-      fewest-regions = λ f g a. smallest-file (f .file) (g .file) (f .bytes) (g .bytes) (f .accepted) (g .accepted) a .0 .regions;
-      shortest = λ f g a. smallest-file (f .file) (g .file) (f .bytes) (g .bytes) (f .accepted) (g .accepted) a .1;
+      equal-if-alike = alike-equal;
+      alike-if-equal = equal-alike;
+      equal-if-same-bounds = λ f g s. alike-equal f g (alike-from-bounds f g s);
+      same-bounds-if-equal = λ f g e. bounds-from-alike f g (equal-alike f g e);
+      fewest-regions = λ f g a. smallest f g a .0 .regions;
+      shortest = λ f g a. smallest f g a .1;
       fits = λ f. reduced-file-fits (f .file) (f .bytes) (f .accepted);
       reduces = λ f out new r room. reduces-to f out room r new;
-      alike-if-same = λ f g r p e. alike-if-equal f g (says-equal f g r p e);
-      same-if-alike = λ f g r p a. equal-says f g r p (equal-if-alike f g a);
+      fewest-answered = λ f g out l k p a. omega (arith, counts-said f out l k p .1, smallest f g a .0 .regions);
+      shortest-answered = λ f g out l k p a. omega (arith, counts-said f out l k p .0, smallest f g a .1);
+      alike-if-same = λ f g r p e. equal-alike f g (says-equal f g r p e);
+      same-if-alike = λ f g r p a. equal-says f g r p (alike-equal f g a);
+      same-bounds-if-same = λ f g r p e. bounds-from-alike f g (equal-alike f g (says-equal f g r p e));
+      same-if-same-bounds = λ f g r p s. equal-says f g r p (alike-equal f g (alike-from-bounds f g s));
     }
-  where
-    equal-if-alike : (f g : AcceptedFile) → Alike (familyOf (f .file)) (familyOf (g .file)) → reducedFile (f .file) ≡ reducedFile (g .file)
-    equal-if-alike f g = alike-same-file (f .file) (g .file) (f .bytes) (g .bytes) (f .accepted) (g .accepted)
-
-    alike-if-equal : (f g : AcceptedFile) → reducedFile (f .file) ≡ reducedFile (g .file) → Alike (familyOf (f .file)) (familyOf (g .file))
-    alike-if-equal f g = same-file-alike (f .file) (g .file) (f .bytes) (g .bytes) (f .accepted) (g .accepted)

@@ -1,28 +1,26 @@
 -- What the steps of the reduction hand on as lists, read place by place.
-use Prim.Native.Nat.{ℕ, zero, suc, _+_, _-_, _≤_, _<_}
-use mathlib.Core.Bool.{true, false, not, cond, _||_}
-use mathlib.Core.List.{List, [], _∷_, _++_}
-use mathlib.Core.Path.{_≡_, refl, _∙_, ap}
+use Prim.Native.Nat.{ℕ, zero, suc, _-_, _≤_, _<_}
+use mathlib.Core.Bool.{true, false, not, _||_}
+use mathlib.Core.List.{List}
+use mathlib.Core.Path.{_≡_, sym, _∙_, ap}
 use native.Mathlib.Omega.{arith}
 use lib.Dec.{eqb}
-use lib.ListN.{getD}
 use borrow.Author.Tests.{ne-eqb, not-true}
 use Rattle.reader.specs.Bytes.{IsBytes}
 use Rattle.reader.specs.Family.{Family, regionCount, region, familyOf}
 use Rattle.reader.specs.Causes.{Accepted}
 use Rattle.reader.specs.WellFormed.{ParentsBelow}
-use Rattle.reader.proofs.Lists.{length-tabulate, getD-tabulate}
 use Rattle.reader.proofs.Accepting.{well-formed}
 use Rattle.bounds.specs.Ranges.{Peptides, rangeOf, rangesOf}
 use Rattle.bounds.specs.Bound.{total}
 use Rattle.bounds.specs.Selections.{selected, totalsOf}
-use Rattle.bounds.proofs.Members.{and-l, eqb-bit}
+use Rattle.bounds.proofs.Members.{and-l}
 use Rattle.bounds.proofs.Counting.{SameSet}
 use Rattle.bounds.proofs.Totals.{total-same}
 use Rattle.reduction.specs.Reduction.{live}
 use Rattle.reduction.specs.Steps.{Begins, liveBytes, firstLive, lastLive, firstsLive, lastsLive, Parented, Stretched, Totalled}
 use Rattle.reduction.specs.Keeping.{firstAt, lastAt, WithStretches, totalAt, TotalsBelow, beginsRun}
-use Rattle.reduction.proofs.Selected.{selected-at}
+use Rattle.reduction.proofs.Selected.{selected-at, set-length, set-selected}
 use Rattle.reduction.proofs.ListFronts.{begins-at, ranges-at, known-parents}
 
 module _ (s : List ℕ) (bytes : IsBytes s) (accepted : Accepted s) where
@@ -39,15 +37,12 @@ module _ (s : List ℕ) (bytes : IsBytes s) (accepted : Accepted s) where
 
 pub lives-same : (F : Family) (X : List ℕ) → Begins (liveBytes F) X → SameSet (F .peptides) (selected X) (live (rangesOf F))
 unfolding liveBytes
-lives-same F X b zero l u = absurd (omega arith)
-lives-same F X b (suc p) l u =
-    selected-at X (suc p) l
-    ∙ (ap (λ (i : ℕ). eqb (getD X i 0) 1) (omega arith)
-    ∙ (ap (λ (x : ℕ). eqb x 1) (begins-at (liveBytes F) X b p (omega (arith, length-tabulate (F .peptides) byte)) ∙ getD-tabulate (F .peptides) byte 0 p u)
-    ∙ (eqb-bit (live (rangesOf F) (p + 1)) ∙ ap (live (rangesOf F)) (omega arith))))
-  where
-    byte : ℕ → ℕ
-    byte i = cond (live (rangesOf F) (i + 1)) 1 0
+lives-same F X b p l u =
+    let L : Peptides = live (rangesOf F) in
+    selected-at X p l
+    ∙ ap (λ (x : ℕ). eqb x 1) (begins-at (liveBytes F) X b (p - 1) (omega (arith, set-length (F .peptides) L)))
+    ∙ sym (selected-at (liveBytes F) p l)
+    ∙ set-selected (F .peptides) L p l u
 
 -- where a run begins
 module _ (X : Peptides) (p : ℕ) where
@@ -72,16 +67,12 @@ begins-first X (suc (suc p)) e h = absurd (omega arith)
 -- The totals.
 
 pub totals-at : (s T : List ℕ) → Totalled s T → TotalsBelow (familyOf s) T
-unfolding totalsOf totalAt
+unfolding totalsOf totalAt liveBytes
 totals-at s T t k h =
     let F = familyOf s in
     let S = selected (liveBytes F) in
     ranges-at F (total (F .peptides) (rangesOf F) S) T (t .totals) k h
-    ∙ total-same (F .peptides) (rangesOf F) S (live (rangesOf F)) (lives-same F (liveBytes F) ([], append-none (liveBytes F))) (rangeOf F (region F k))
-  where
-    append-none : (L : List ℕ) → L ≡ L ++ []
-    append-none [] = refl
-    append-none (x ∷ L) = ap (λ (l : List ℕ). x ∷ l) (append-none L)
+    ∙ total-same (F .peptides) (rangesOf F) S (live (rangesOf F)) (set-selected (F .peptides) (live (rangesOf F))) (rangeOf F (region F k))
 
 -- The parents.
 

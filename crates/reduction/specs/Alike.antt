@@ -1,8 +1,10 @@
--- Two families with the same curves.
+-- Two families with the same curves, and two with the same bounds.
 use Prim.Native.Nat.{ℕ}
+use mathlib.Core.Bool.{false}
 use mathlib.Core.List.{List}
 use mathlib.Core.Path.{_≡_}
 use Rattle.reader.specs.Family.{Family}
+use Rattle.bounds.specs.Selections.{boundOf, cause14}
 use Rattle.bounds.specs.Curves.{curveValues}
 use Rattle.bounds.specs.Calls.{IsPath}
 
@@ -10,3 +12,8 @@ use Rattle.bounds.specs.Calls.{IsPath}
 pub record Alike (F G : Family) : Type 0 where
   pub peptides : F .peptides ≡ G .peptides
   pub curves : (path : List ℕ) → IsPath (F .peptides) path → curveValues F path ≡ curveValues G path
+
+-- equal m and, for every selection (m bytes, each 0 or 1), equal bounds
+pub record SameBounds (F G : Family) : Type 0 where
+  pub peptides : F .peptides ≡ G .peptides
+  pub bounds : (selection : List ℕ) → cause14 (F .peptides) selection ≡ false → boundOf F selection ≡ boundOf G selection
