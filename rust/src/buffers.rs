@@ -1,41 +1,66 @@
-//! A lent buffer between sentinels: after the call these are as they were.
+//! Buffers that are lent to a call between sentinels: after the call the sentinels are as they were, and so is an input.
 
-use std::fmt::Debug;
+use std::hint::black_box;
 
 const AROUND: usize = 40;
 
-pub struct Lent<T> {
-    all: Vec<T>,
-    sentinel: T,
+/// What a buffer holds, and the sentinel around it.
+pub trait Element: Copy + PartialEq {
+    const SENTINEL: Self;
 }
 
-impl<T: Copy + PartialEq + Debug> Lent<T> {
+impl Element for u8 {
+    const SENTINEL: u8 = 0xA5;
+}
+
+impl Element for u16 {
+    const SENTINEL: u16 = 0xABCD;
+}
+
+struct Lent<T> {
+    all: Vec<T>,
+}
+
+impl<T: Element> Lent<T> {
     /// The contents, with sentinels before and after them.
-    pub fn new(contents: &[T], sentinel: T) -> Lent<T> {
-        let mut all = vec![sentinel; AROUND];
+    fn new(contents: &[T]) -> Lent<T> {
+        let mut all = vec![T::SENTINEL; AROUND];
         all.extend_from_slice(contents);
-        all.extend(vec![sentinel; AROUND]);
-        Lent { all, sentinel }
+        all.extend([T::SENTINEL; AROUND]);
+        Lent { all }
     }
 
-    pub fn contents(&self) -> &[T] {
-        &self.all[AROUND..self.all.len() - AROUND]
-    }
-
-    pub fn contents_mut(&mut self) -> &mut [T] {
+    fn contents(&mut self) -> &mut [T] {
         let end = self.all.len() - AROUND;
-        &mut self.all[AROUND..end]
+        // an input is handed on as one that is only read; what it holds afterwards is looked up all the same
+        black_box(&mut self.all[AROUND..end])
     }
 
     /// The contents after a call; fails if a sentinel was written.
-    pub fn returned(self) -> Vec<T> {
+    fn returned(&self) -> &[T] {
         let end = self.all.len() - AROUND;
         let before = &self.all[..AROUND];
         let after = &self.all[end..];
         assert!(
-            before.iter().chain(after).all(|x| *x == self.sentinel),
+            before.iter().chain(after).all(|x| *x == T::SENTINEL),
             "a place outside of a lent buffer was written"
         );
-        self.all[AROUND..end].to_vec()
+        &self.all[AROUND..end]
     }
+}
+
+/// Runs a call with a copy of an input; fails if the copy is another one afterwards.
+pub fn reading<T: Element, A>(input: &[T], call: impl FnOnce(&[T]) -> A) -> A {
+    let mut lent = Lent::new(input);
+    let answer = call(lent.contents());
+    assert!(lent.returned() == input, "an input was written");
+    answer
+}
+
+/// Runs a call with a copy of an output, and takes over what the copy holds afterwards.
+pub fn writing<T: Element, A>(output: &mut [T], call: impl FnOnce(&mut [T]) -> A) -> A {
+    let mut lent = Lent::new(output);
+    let answer = call(lent.contents());
+    output.copy_from_slice(lent.returned());
+    answer
 }

@@ -1,6 +1,6 @@
-//! Each call of the library held to the reference: the answer, every lent byte afterwards, and the sentinels around it.
+//! Each call of the library held to the reference: the answer, and every lent byte afterwards.
 
-use crate::buffers::Lent;
+use crate::guarded;
 use crate::phf;
 use crate::reference;
 
@@ -22,9 +22,8 @@ fn with_front<T: Copy>(new: &[T], old: &[T]) -> Vec<T> {
 
 /// The check and the place of the regions; the number.
 pub fn check(file: &[u8]) -> u16 {
-    let lent = Lent::new(file, 0xA5);
-    let answer = phf::check(lent.contents());
-    let part = phf::regions(lent.contents());
+    let answer = guarded::check(file);
+    let part = guarded::regions(file);
     match reference::check(file) {
         Ok(family) => {
             let expected = phf::Checked {
@@ -55,15 +54,14 @@ pub fn check(file: &[u8]) -> u16 {
             );
         }
     }
-    assert_eq!(lent.returned(), file, "the file was written");
     answer.number
 }
 
 /// The bound with `room` places for taken bytes; the number.
 pub fn bound(file: &[u8], selection: &[u8], room: usize) -> u16 {
     let before = before_u8(room);
-    let mut taken = Lent::new(&before, 0x5A);
-    let answer = phf::bound(file, selection, taken.contents_mut());
+    let mut taken = before.clone();
+    let answer = guarded::bound(file, selection, &mut taken);
     match reference::bound(file, selection, room) {
         Ok((value, bytes)) => {
             let expected = phf::Bounded {
@@ -71,11 +69,11 @@ pub fn bound(file: &[u8], selection: &[u8], room: usize) -> u16 {
                 bound: value,
             };
             assert_eq!(answer, expected);
-            assert_eq!(taken.returned(), with_front(&bytes, &before));
+            assert_eq!(taken, with_front(&bytes, &before));
         }
         Err(number) => {
             assert_eq!(answer, phf::Bounded { number, bound: 0 });
-            assert_eq!(taken.returned(), before);
+            assert_eq!(taken, before);
         }
     }
     answer.number
@@ -85,19 +83,19 @@ pub fn bound(file: &[u8], selection: &[u8], room: usize) -> u16 {
 pub fn curve(file: &[u8], path: &[u16], values_room: usize, marks_room: usize) -> u16 {
     let values_before = before_u16(values_room);
     let marks_before = before_u8(marks_room);
-    let mut values = Lent::new(&values_before, 0xABCD);
-    let mut marks = Lent::new(&marks_before, 0x5A);
-    let answer = phf::curve(file, path, values.contents_mut(), marks.contents_mut());
+    let mut values = values_before.clone();
+    let mut marks = marks_before.clone();
+    let answer = guarded::curve(file, path, &mut values, &mut marks);
     match reference::curve(file, path, values_room, marks_room) {
         Ok((entries, marked)) => {
             assert_eq!((answer.number, answer.place), (0, 0));
-            assert_eq!(values.returned(), with_front(&entries, &values_before));
-            assert_eq!(marks.returned(), with_front(&marked, &marks_before));
+            assert_eq!(values, with_front(&entries, &values_before));
+            assert_eq!(marks, with_front(&marked, &marks_before));
         }
         Err(refusal) => {
             declined(&refusal, answer.number, answer.place);
-            assert_eq!(values.returned(), values_before);
-            assert_eq!(marks.returned(), marks_before);
+            assert_eq!(values, values_before);
+            assert_eq!(marks, marks_before);
         }
     }
     answer.number
@@ -105,7 +103,7 @@ pub fn curve(file: &[u8], path: &[u16], values_room: usize, marks_room: usize) -
 
 /// The cut; the number.
 pub fn cut(file: &[u8], path: &[u16], a: u16, b: u16) -> u16 {
-    let answer = phf::cut(file, path, a, b);
+    let answer = guarded::cut(file, path, a, b);
     match reference::cut(file, path, a, b) {
         Ok(cut) => {
             let expected = phf::Cutting {
@@ -140,8 +138,8 @@ fn declined(refusal: &reference::Refusal, number: u16, place: u16) {
 /// The reduction into `room` places; the number.
 pub fn reduce(file: &[u8], room: usize) -> u16 {
     let before = before_u8(room);
-    let mut out = Lent::new(&before, 0x5A);
-    let answer = phf::reduce(file, out.contents_mut());
+    let mut out = before.clone();
+    let answer = guarded::reduce(file, &mut out);
     match reference::reduce(file, room) {
         Ok(family) => {
             let reduced = reference::file_of(&family);
@@ -151,7 +149,7 @@ pub fn reduce(file: &[u8], room: usize) -> u16 {
                 regions: family.regions.len() as u16,
             };
             assert_eq!(answer, expected);
-            assert_eq!(out.returned(), with_front(&reduced, &before));
+            assert_eq!(out, with_front(&reduced, &before));
         }
         Err(number) => {
             let expected = phf::Reduced {
@@ -160,7 +158,7 @@ pub fn reduce(file: &[u8], room: usize) -> u16 {
                 regions: 0,
             };
             assert_eq!(answer, expected);
-            assert_eq!(out.returned(), before);
+            assert_eq!(out, before);
         }
     }
     answer.number
@@ -168,7 +166,7 @@ pub fn reduce(file: &[u8], room: usize) -> u16 {
 
 /// The comparison; the number and whether they are the same.
 pub fn same(first: &[u8], second: &[u8]) -> (u16, u16) {
-    let answer = phf::same(first, second);
+    let answer = guarded::same(first, second);
     match reference::same(first, second) {
         Ok(same) => assert_eq!((answer.number, answer.same), (0, same as u16)),
         Err(number) => assert_eq!((answer.number, answer.same), (number, 0)),

@@ -39,9 +39,22 @@ impl Admissible {
             .unwrap() as u16
     }
 
-    /// The bound of every selection, by its number.
+    /// The bound of every selection, by its number. What an admissible set has of a selection is itself admissible, so this
+    /// is the largest admissible set inside each selection, found by leaving out one peptide after the other.
     pub fn all_bounds(&self, m: usize) -> Vec<u16> {
-        (0..1u32 << m).map(|s| self.bound(s)).collect()
+        let mut bounds = vec![0; 1 << m];
+        for set in &self.sets {
+            bounds[*set as usize] = set.count_ones() as u16;
+        }
+        for p in 1..=m {
+            let peptide = mask(p, p) as usize;
+            for selection in 0..1 << m {
+                if selection & peptide != 0 {
+                    bounds[selection] = bounds[selection].max(bounds[selection ^ peptide]);
+                }
+            }
+        }
+        bounds
     }
 }
 

@@ -128,19 +128,33 @@ pub fn random_family(random: &mut Random, m: usize) -> Family {
     with_bounds(random, lengths, &ranges, bounds)
 }
 
+/// The leaf ranges of a binary tree, in file order: a range and its two halves, down to single leaves.
+fn halves(first: usize, last: usize, out: &mut Vec<(usize, usize)>) {
+    out.push((first, last));
+    if first < last {
+        let middle = (first + last) / 2;
+        halves(first, middle, out);
+        halves(middle + 1, last, out);
+    }
+}
+
 /// n leaves of one length, and the binary tree with a region for each leaf and for each pair of neighbours: 2n - 1 regions.
 pub fn binary_tree(random: &mut Random, n: usize, length: usize, bounds: Bounds) -> Family {
-    fn halves(first: usize, last: usize, out: &mut Vec<(usize, usize)>) {
-        out.push((first, last));
-        if first < last {
-            let middle = (first + last) / 2;
-            halves(first, middle, out);
-            halves(middle + 1, last, out);
-        }
-    }
     let mut ranges = Vec::new();
     halves(1, n, &mut ranges);
     with_bounds(random, vec![length as u16; n], &ranges, bounds)
+}
+
+/// A binary tree as wide and as deep as any: 4,096 leaves, 8,191 regions, 64 of them nested. The first 51 leaves are split
+/// off one by one, which leaves 4,045 for 13 more levels.
+pub fn deepest_tree(random: &mut Random, bounds: Bounds) -> Family {
+    let mut ranges = Vec::new();
+    for leaf in 1..=51 {
+        ranges.push((leaf, 4096));
+        ranges.push((leaf, leaf));
+    }
+    halves(52, 4096, &mut ranges);
+    with_bounds(random, vec![1; 4096], &ranges, bounds)
 }
 
 /// Towers of nested regions, `depth` high, side by side on n leaves: each region leaves one leaf free.

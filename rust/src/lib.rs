@@ -5,6 +5,8 @@ pub mod compare;
 pub mod enumeration;
 pub mod families;
 pub mod fast;
+pub mod guarded;
+pub mod neighbours;
 pub mod phf;
 pub mod random;
 pub mod reference;

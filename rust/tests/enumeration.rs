@@ -3,7 +3,7 @@
 
 use phf_tests::enumeration::{bytes_of, mask, Admissible};
 use phf_tests::families::{all_families, random_family};
-use phf_tests::phf;
+use phf_tests::guarded;
 use phf_tests::random::{cases, Random};
 use phf_tests::reference::{file_of, pieces, Family};
 
@@ -12,7 +12,7 @@ fn holds_bound(family: &Family, file: &[u8], selection: u32, expected: u16) {
     let m = family.peptides as usize;
     let regions = pieces(family);
     let mut taken = vec![9; regions.len()];
-    let answer = phf::bound(file, &bytes_of(selection, m), &mut taken);
+    let answer = guarded::bound(file, &bytes_of(selection, m), &mut taken);
     assert_eq!((answer.number, answer.bound), (0, expected));
     let mut covered = 0;
     let mut sum = 0;
@@ -34,7 +34,7 @@ fn holds_bound(family: &Family, file: &[u8], selection: u32, expected: u16) {
 fn holds_curve(random: &mut Random, m: usize, sets: &Admissible, file: &[u8], path: &[u16]) {
     let mut values = vec![9999; path.len() + 1];
     let mut marks = vec![99; path.len()];
-    let answer = phf::curve(file, path, &mut values, &mut marks);
+    let answer = guarded::curve(file, path, &mut values, &mut marks);
     assert_eq!((answer.number, answer.place), (0, 0));
     let mut prefix = 0;
     let mut marked = 0;
@@ -61,7 +61,7 @@ fn holds_curve(random: &mut Random, m: usize, sets: &Admissible, file: &[u8], pa
                 expected = t as u16;
             }
         }
-        let answer = phf::cut(file, path, a, b);
+        let answer = guarded::cut(file, path, a, b);
         assert_eq!(
             (answer.number, answer.place, answer.cut),
             (0, 0, expected),
@@ -76,8 +76,8 @@ fn every_family_up_to_four_peptides() {
         for family in all_families(m) {
             let sets = Admissible::of(&family);
             let file = file_of(&family);
-            for (selection, expected) in sets.all_bounds(m).into_iter().enumerate() {
-                holds_bound(&family, &file, selection as u32, expected);
+            for selection in 0..1 << m {
+                holds_bound(&family, &file, selection, sets.bound(selection));
             }
         }
     }
@@ -111,5 +111,16 @@ fn random_families_of_twenty_peptides_and_fewer() {
         }
         let path = random.order(m);
         holds_curve(random, m, &sets, &file, &path);
+    });
+}
+
+/// The quick way to the bounds of all selections, which the tests of the reduction take, against the plain one.
+#[test]
+fn all_bounds_are_the_bounds_of_each_selection() {
+    cases(22, 400, |random| {
+        let m = random.between(1, 9);
+        let sets = Admissible::of(&random_family(random, m));
+        let one_by_one: Vec<u16> = (0..1 << m).map(|s| sets.bound(s)).collect();
+        assert_eq!(sets.all_bounds(m), one_by_one);
     });
 }

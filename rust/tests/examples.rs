@@ -3,20 +3,20 @@
 //! here was copied from these two texts.
 
 use phf_tests::families::{eight_peptides, file};
-use phf_tests::phf;
+use phf_tests::guarded;
 use phf_tests::reference::file_of;
 
 fn curve(file: &[u8], path: &[u16]) -> (Vec<u16>, Vec<u8>) {
     let mut values = vec![9999; path.len() + 1];
     let mut marks = vec![99; path.len()];
-    let answer = phf::curve(file, path, &mut values, &mut marks);
+    let answer = guarded::curve(file, path, &mut values, &mut marks);
     assert_eq!((answer.number, answer.place), (0, 0));
     (values, marks)
 }
 
 fn reduced(file: &[u8]) -> Vec<u8> {
     let mut out = vec![0xEE; file.len()];
-    let answer = phf::reduce(file, &mut out);
+    let answer = guarded::reduce(file, &mut out);
     assert_eq!(answer.number, 0);
     out.truncate(answer.length as usize);
     assert_eq!(out[14..16], answer.length.to_le_bytes());
@@ -47,7 +47,7 @@ fn e1_the_curve() {
 #[test]
 fn e2_the_taken_regions() {
     let mut taken = [9; 5];
-    let answer = phf::bound(&file_of(&eight_peptides()), &[1; 8], &mut taken);
+    let answer = guarded::bound(&file_of(&eight_peptides()), &[1; 8], &mut taken);
     assert_eq!((answer.number, answer.bound), (0, 4));
     assert_eq!(taken, [0, 0, 1, 0, 1]);
 }
@@ -60,15 +60,15 @@ fn e3_the_reduced_file() {
 #[test]
 fn e4_and_e5_the_cuts() {
     let file = file_of(&eight_peptides());
-    assert_eq!(phf::cut(&file, &EIGHT_PATH, 1, 2).cut, 8);
-    assert_eq!(phf::cut(&file, &EIGHT_PATH, 2, 5).cut, 1);
+    assert_eq!(guarded::cut(&file, &EIGHT_PATH, 1, 2).cut, 8);
+    assert_eq!(guarded::cut(&file, &EIGHT_PATH, 2, 5).cut, 1);
 }
 
 #[test]
 fn e6_another_family_with_the_same_reduction() {
     let other = file(&[2, 3, 1, 1, 1], &[(2, 2, 1), (4, 4, 0), (5, 5, 0)]);
     assert_eq!(reduced(&other), hexadecimal(E3));
-    let answer = phf::same(&file_of(&eight_peptides()), &other);
+    let answer = guarded::same(&file_of(&eight_peptides()), &other);
     assert_eq!((answer.number, answer.same), (0, 1));
 }
 
@@ -79,7 +79,7 @@ fn e7_a_smaller_bound_shows() {
     family.regions[0].z = 2;
     let after = file_of(&family);
     assert_ne!(reduced(&before), reduced(&after));
-    assert_eq!(phf::same(&before, &after).same, 0);
+    assert_eq!(guarded::same(&before, &after).same, 0);
     assert_eq!(curve(&after, &[3, 1, 2]).0, [0, 1, 2, 2]);
     assert_eq!(curve(&before, &[3, 1, 2]).0, [0, 1, 2, 3]);
 }
@@ -144,5 +144,5 @@ fn the_published_family_reduces_as_its_completion_does() {
     );
     assert_eq!(reduced(&published(false)), expected);
     assert_eq!(reduced(&published(true)), expected);
-    assert_eq!(phf::same(&published(false), &published(true)).same, 1);
+    assert_eq!(guarded::same(&published(false), &published(true)).same, 1);
 }

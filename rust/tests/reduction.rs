@@ -3,14 +3,16 @@
 use phf_tests::compare;
 use phf_tests::enumeration::Admissible;
 use phf_tests::families::{all_families, random_family};
-use phf_tests::phf;
+use phf_tests::guarded;
+use phf_tests::neighbours::{altered, rewritten};
 use phf_tests::random::{cases, Random};
 use phf_tests::reference::{check, file_of, Family};
+use std::cell::Cell;
 use std::collections::HashMap;
 
 fn reduced(file: &[u8]) -> Vec<u8> {
     let mut out = vec![0xEE; file.len()];
-    let answer = phf::reduce(file, &mut out);
+    let answer = guarded::reduce(file, &mut out);
     assert_eq!(answer.number, 0);
     out.truncate(answer.length as usize);
     out
@@ -50,6 +52,119 @@ fn random_families_up_to_seven_peptides() {
     told_apart(families);
 }
 
+/// Of all families with the same bounds none has fewer regions than the reduced file, and none a shorter file. A z over its
+/// region's size says no more than the size, so `all_families` has what can be had with so many regions and leaves.
+#[test]
+fn fewest_regions_and_shortest_of_every_family_up_to_four_peptides() {
+    for m in 1..=4 {
+        let mut fewest: HashMap<Vec<u16>, (usize, usize)> = HashMap::new();
+        let mut reductions: HashMap<Vec<u16>, Vec<u8>> = HashMap::new();
+        for family in all_families(m) {
+            let bounds = Admissible::of(&family).all_bounds(m);
+            let file = file_of(&family);
+            let (regions, length) = fewest
+                .entry(bounds.clone())
+                .or_insert((usize::MAX, usize::MAX));
+            *regions = family.regions.len().min(*regions);
+            *length = file.len().min(*length);
+            reductions.insert(bounds, reduced(&file));
+        }
+        assert!(fewest.len() >= 1 << m);
+        for (bounds, (regions, length)) in fewest {
+            let short = &reductions[&bounds];
+            assert_eq!(check(short).unwrap().regions.len(), regions);
+            assert_eq!(short.len(), length);
+        }
+    }
+}
+
+/// A family with its file, the bounds of all selections by enumeration, and what the library reduces it to.
+struct Known {
+    family: Family,
+    file: Vec<u8>,
+    bounds: Vec<u16>,
+    reduced: Vec<u8>,
+}
+
+impl Known {
+    fn new(family: Family) -> Known {
+        let file = file_of(&family);
+        Known {
+            bounds: Admissible::of(&family).all_bounds(family.peptides as usize),
+            reduced: reduced(&file),
+            family,
+            file,
+        }
+    }
+
+    /// One step away: the reduced file written back, the same bounds in another way, or a little more or less said.
+    fn neighbour(&self, random: &mut Random) -> Known {
+        Known::new(match random.below(12) {
+            0 => check(&self.reduced).unwrap(),
+            1..=7 => rewritten(random, &self.family, &self.bounds),
+            _ => altered(random, &self.family, &self.bounds),
+        })
+    }
+}
+
+/// How many pairs of different files had the same bounds, how many had not, and how many of these differed in one
+/// selection of a hundred at most.
+#[derive(Default)]
+struct Pairs {
+    agreed: Cell<usize>,
+    differed: Cell<usize>,
+    barely: Cell<usize>,
+}
+
+fn one_more(count: &Cell<usize>) {
+    count.set(count.get() + 1);
+}
+
+impl Pairs {
+    /// Equal reductions, and the answer yes, exactly when all bounds agree.
+    fn told_apart(&self, one: &Known, other: &Known) {
+        let bounds = one.bounds.iter().zip(&other.bounds);
+        let apart = bounds.filter(|(one, other)| one != other).count();
+        assert_eq!(one.reduced == other.reduced, apart == 0);
+        let answer = guarded::same(&one.file, &other.file);
+        assert_eq!((answer.number, answer.same), (0, (apart == 0) as u16));
+        if apart == 0 && one.file != other.file {
+            one_more(&self.agreed);
+        }
+        if apart > 0 {
+            one_more(&self.differed);
+        }
+        if apart > 0 && apart * 100 <= one.bounds.len() {
+            one_more(&self.barely);
+        }
+    }
+}
+
+#[test]
+fn neighbours_of_eight_to_twelve_peptides() {
+    let pairs = Pairs::default();
+    cases(43, 3_000, |random| {
+        let m = random.between(8, 12);
+        // of a few random families the one that has most to say
+        let some = (0..6).map(|_| Known::new(random_family(random, m)));
+        let mut all = vec![some.max_by_key(|known| known.reduced.len()).unwrap()];
+        while all.len() < 8 {
+            let from = &all[random.below(all.len())];
+            let new = from.neighbour(random).neighbour(random);
+            for old in &all {
+                pairs.told_apart(old, &new);
+            }
+            all.push(new);
+        }
+    });
+    let (agreed, differed) = (pairs.agreed.get(), pairs.differed.get());
+    let barely = pairs.barely.get();
+    assert!(
+        agreed > 20_000 && differed > 20_000 && barely > 1_000,
+        "{agreed} agreed, {differed} differed, {barely} of them barely"
+    );
+}
+
 #[test]
 fn reduced_files_are_accepted_keep_the_curves_and_reduce_to_themselves() {
     cases(41, 600, |random| {
@@ -65,7 +180,10 @@ fn reduced_files_are_accepted_keep_the_curves_and_reduce_to_themselves() {
         let curve = |file: &[u8]| {
             let mut values = vec![0; m + 1];
             let mut marks = vec![0; m];
-            assert_eq!(phf::curve(file, &path, &mut values, &mut marks).number, 0);
+            assert_eq!(
+                guarded::curve(file, &path, &mut values, &mut marks).number,
+                0
+            );
             values
         };
         assert_eq!(curve(&file), curve(&short));

@@ -1,10 +1,10 @@
 //! The library against the plain implementation, at all sizes up to 4,096 peptides and 8,191 regions.
 
 use phf_tests::compare;
-use phf_tests::families::{binary_tree, chain, random_family, towers, Bounds};
-use phf_tests::phf;
+use phf_tests::families::{binary_tree, chain, deepest_tree, random_family, towers, Bounds};
+use phf_tests::guarded;
 use phf_tests::random::{cases, Random};
-use phf_tests::reference::{file_of, Family};
+use phf_tests::reference::{file_of, Family, Region};
 
 /// Every call on one family, with outputs of just the size and longer ones.
 fn all_calls(random: &mut Random, family: &Family) {
@@ -65,6 +65,11 @@ fn the_largest_tree() {
             all_calls(random, &family);
         });
     }
+    cases(10, 1, |random| {
+        let family = deepest_tree(random, Bounds::Mixed);
+        assert_eq!(family.regions.len(), 8191);
+        all_calls(random, &family);
+    });
 }
 
 #[test]
@@ -90,29 +95,67 @@ fn towers_of_sixty_four() {
     });
 }
 
-/// The header promises that 512 KB of stack are enough; Rust's own thread takes a little of them here.
-#[test]
-fn half_a_megabyte_of_stack_is_enough() {
-    let random = &mut Random::new(9);
-    let deep = file_of(&towers(random, 4096, 64, Bounds::Mixed));
-    let wide = file_of(&binary_tree(random, 4096, 1, Bounds::Mixed));
-    let path = random.order(4096);
-    let calls = move || {
-        for file in [&deep, &wide] {
-            let mut values = vec![0; 4097];
-            let mut bytes = vec![0; file.len()];
-            assert_eq!(phf::bound(file, &[1; 4096], &mut bytes).number, 0);
-            let answer = phf::curve(file, &path, &mut values, &mut bytes);
-            assert_eq!(answer.number, 0);
-            assert_eq!(phf::cut(file, &path, 1, 10).number, 0);
-            assert_eq!(phf::reduce(file, &mut bytes).number, 0);
-            assert_eq!(phf::same(file, file).same, 1);
-        }
+/// How many regions of a family are nested in each other at most.
+fn levels(family: &Family) -> usize {
+    let inside = |leaf: usize| {
+        let has = |r: &&Region| r.first as usize <= leaf && leaf <= r.last as usize;
+        family.regions.iter().filter(has).count()
     };
-    std::thread::Builder::new()
-        .stack_size(512 * 1024)
-        .spawn(calls)
-        .unwrap()
-        .join()
-        .unwrap();
+    (1..=family.lengths.len()).map(inside).max().unwrap()
+}
+
+/// Runs a call in a thread with half a megabyte of stack. Where that is too little, the thread's name is printed.
+fn on_half_a_megabyte(name: &str, call: impl FnOnce() + Send) {
+    std::thread::scope(|scope| {
+        std::thread::Builder::new()
+            .name(name.to_string())
+            .stack_size(512 * 1024)
+            .spawn_scoped(scope, call)
+            .unwrap()
+            .join()
+            .unwrap();
+    });
+}
+
+/// Every call, with the longest path and everything selected.
+fn calls_on_half_a_megabyte(file: &[u8], path: &[u16]) {
+    let (mut values, mut marks) = ([0; 4097], [0; 4096]);
+    let (mut taken, mut out) = ([0; 8191], [0; 57354]);
+    on_half_a_megabyte("phf_check", || assert_eq!(guarded::check(file).number, 0));
+    on_half_a_megabyte("phf_regions", || assert!(guarded::regions(file).length > 0));
+    on_half_a_megabyte("phf_bound", || {
+        assert_eq!(guarded::bound(file, &[1; 4096], &mut taken).number, 0)
+    });
+    on_half_a_megabyte("phf_curve", || {
+        assert_eq!(
+            guarded::curve(file, path, &mut values, &mut marks).number,
+            0
+        )
+    });
+    on_half_a_megabyte("phf_cut", || {
+        assert_eq!(guarded::cut(file, path, 1, 10).number, 0)
+    });
+    on_half_a_megabyte("phf_reduce", || {
+        assert_eq!(guarded::reduce(file, &mut out).number, 0)
+    });
+    on_half_a_megabyte("phf_same", || assert_eq!(guarded::same(file, file).same, 1));
+}
+
+/// The header promises that 512 KB of stack are enough; Rust's own thread takes a little of them here. What a call needs
+/// grows with the regions that are nested, so these are the deepest families: all towers, and the largest tree.
+#[test]
+fn half_a_megabyte_of_stack_is_enough_for_every_call() {
+    let random = &mut Random::new(9);
+    let path = random.order(4096);
+    for bounds in [Bounds::Small, Bounds::Mixed] {
+        let deep = [
+            towers(random, 4096, 64, bounds),
+            deepest_tree(random, bounds),
+        ];
+        assert_eq!(deep[1].regions.len(), 8191);
+        for family in deep {
+            assert_eq!(levels(&family), 64);
+            calls_on_half_a_megabyte(&file_of(&family), &path);
+        }
+    }
 }

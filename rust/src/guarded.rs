@@ -1,0 +1,47 @@
+//! The calls of the library, as the tests make them: every buffer is a copy between sentinels, and after every call each input
+//! is compared with what was given.
+
+use crate::buffers::{reading, writing};
+use crate::phf::{self, Bounded, Checked, Compared, Curved, Cutting, Part, Reduced};
+
+pub fn check(file: &[u8]) -> Checked {
+    reading(file, phf::check)
+}
+
+pub fn regions(file: &[u8]) -> Part {
+    reading(file, phf::regions)
+}
+
+pub fn bound(file: &[u8], selection: &[u8], taken: &mut [u8]) -> Bounded {
+    reading(file, |file| {
+        reading(selection, |selection| {
+            writing(taken, |taken| phf::bound(file, selection, taken))
+        })
+    })
+}
+
+pub fn curve(file: &[u8], path: &[u16], values: &mut [u16], marks: &mut [u8]) -> Curved {
+    reading(file, |file| {
+        reading(path, |path| {
+            writing(values, |values| {
+                writing(marks, |marks| phf::curve(file, path, values, marks))
+            })
+        })
+    })
+}
+
+pub fn cut(file: &[u8], path: &[u16], a: u16, b: u16) -> Cutting {
+    reading(file, |file| {
+        reading(path, |path| phf::cut(file, path, a, b))
+    })
+}
+
+pub fn reduce(file: &[u8], out: &mut [u8]) -> Reduced {
+    reading(file, |file| writing(out, |out| phf::reduce(file, out)))
+}
+
+pub fn same(first: &[u8], second: &[u8]) -> Compared {
+    reading(first, |first| {
+        reading(second, |second| phf::same(first, second))
+    })
+}
