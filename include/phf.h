@@ -15,33 +15,34 @@
  * No function keeps anything from one call to the next, allocates, or fails otherwise than by the number it returns.
  * All may be called from several threads at once. They need up to 512 KB of stack.
  *
- * BUILDING. `rt staticlib phf` writes target/staticlib/libphf.a, to link with a program. A shared object is made of it by
- *     cc -shared -o libphf.so -Wl,--whole-archive target/staticlib/libphf.a -Wl,--no-whole-archive
+ * BUILDING. tools/staticlib proves the functions and writes target/staticlib/libphf.a, to link with a program;
+ * tools/sharedlib makes target/sharedlib/libphf.so of it. Both run in any folder and print where the library is.
  *
- * THE NUMBER. Each answer has a field `number`: 0 if the call did its work, else the number of the first cause below
- * that holds. A declined call writes to no buffer. Fields of an answer that have no value are 0.
+ * THE NUMBER. Each answer but phf_part has a field `number`: PHF_DONE if the call did its work, else the number of the
+ * first cause of enum phf_number that holds, of those that the call tries. Fields of an answer that have no value are 0.
  *
- *    1  the file has under 16 bytes, or does not begin with the bytes 50 48 46 42 (hexadecimal), "PHFB"
- *    2  m, the number of peptides, is 0 or over 4096
- *    3  N, the number of leaves, is 0 or over m
- *    4  K, the number of regions, is over 2N - 1
- *    5  an offset or the total in the file is not as laid down, or the file's length is not the total
- *    6  a leaf length is 0, or the lengths do not add to m
- *    7  a region's first leaf is 0, or its last below its first, or over N
- *    8  a region does not stand after the one before it (first leaf rising; where equal, last leaf falling)
- *    9  two regions share a leaf, neither inside the other
- *   10  a region has more than 63 regions around it
- *   11  the path is longer than m
- *   12  a number of the path is 0 or over m
- *   13  a peptide stands twice in the path; `place` is where (counted from 1) one stands that stood earlier too
- *   14  the selection is not m bytes, or has a byte over 1
- *   15  b is 0, or a is over b
- *   16  an output is shorter than needed
+ * BUFFERS. A declined call leaves every buffer as it was. A call that did its work writes its outputs from their start, as
+ * far as is said there, and leaves what lies beyond, and all inputs, as they were.
  *
  * THE FILE. All numbers have 2 bytes, low byte first. From offset 0: the mark "PHFB", m, N, K, the offset of the leaf
  * lengths (16), the offset of the regions (16 + 2N), the total length (16 + 2N + 6K); then N leaf lengths; then K
  * regions, each first leaf, last leaf, z. Peptides are numbered from 1 to m, leaves from 1 to N; they are different
  * things. A region has all peptides of its leaves.
+ *
+ * EXAMPLE, for a main with <stdio.h>: the curve of a family with 8 peptides, 4 leaves and 5 regions.
+ *
+ *     const uint8_t family[54] = {'P', 'H', 'F', 'B', 8, 0, 4, 0, 5, 0, 16, 0, 24, 0, 54, 0, 2, 0, 3, 0, 1, 0, 2, 0,
+ *         1, 0, 2, 0, 3, 0, 1, 0, 1, 0, 2, 0, 2, 0, 2, 0, 1, 0, 3, 0, 4, 0, 3, 0, 4, 0, 4, 0, 0, 0};
+ *     const uint16_t path[8] = {7, 3, 1, 4, 6, 2, 5, 8};
+ *     uint16_t values[9];
+ *     uint8_t marks[8];
+ *     phf_curved answer = phf_curve(family, 54, path, 8, values, 9, marks, 8);
+ *     if (answer.number != PHF_DONE)
+ *         return answer.number;
+ *     for (int t = 1; t <= 8; t++)
+ *         printf("of the first %d at most %d are false\n", t, values[t]);
+ *
+ * END OF THE EXAMPLE.
  */
 #ifndef PHF_H
 #define PHF_H
@@ -53,10 +54,62 @@
 extern "C" {
 #endif
 
+/*
+ * The version. Before 1.0.0 the calls, their answers, the numbers and the file may still change, and others may be added:
+ * MINOR rises then. PATCH rises when all of these stay as they are.
+ */
+#define PHF_VERSION_MAJOR 0
+#define PHF_VERSION_MINOR 9
+#define PHF_VERSION_PATCH 0
+
 /* The largest sizes: peptides, regions, and bytes of a family file. */
 #define PHF_MOST_PEPTIDES 4096
 #define PHF_MOST_REGIONS 8191
 #define PHF_MOST_BYTES 57354
+
+/*
+ * The numbers, each with its cause. Causes are tried in this order, each over its whole input; those of inputs that a call
+ * lacks are skipped.
+ */
+enum phf_number {
+    /* none: the call did its work */
+    PHF_DONE = 0,
+    /* the file has under 16 bytes, or does not begin with the bytes 50 48 46 42 (hexadecimal), "PHFB" */
+    PHF_NOT_A_FAMILY_FILE = 1,
+    /* m, the number of peptides, is 0 or over 4096 */
+    PHF_BAD_PEPTIDE_COUNT = 2,
+    /* N, the number of leaves, is 0 or over m */
+    PHF_BAD_LEAF_COUNT = 3,
+    /* K, the number of regions, is over 2N - 1 */
+    PHF_TOO_MANY_REGIONS = 4,
+    /* an offset or the total in the file is not as laid down, or the file's length is not the total */
+    PHF_BAD_LAYOUT = 5,
+    /* a leaf length is 0, or the lengths do not add to m */
+    PHF_BAD_LEAF_LENGTHS = 6,
+    /* a region's first leaf is 0, or its last below its first, or over N */
+    PHF_BAD_REGION_LEAVES = 7,
+    /* a region does not stand after the one before it (first leaf rising; where equal, last leaf falling) */
+    PHF_REGIONS_OUT_OF_ORDER = 8,
+    /* two regions share a leaf, neither inside the other */
+    PHF_REGIONS_CROSS = 9,
+    /* a region has more than 63 regions around it */
+    PHF_NESTED_TOO_DEEP = 10,
+    /* the path is longer than m */
+    PHF_PATH_TOO_LONG = 11,
+    /* a number of the path is 0 or over m */
+    PHF_BAD_PATH_NUMBER = 12,
+    /* a peptide stands twice in the path; `place` is where (counted from 1) one stands that stood earlier too */
+    PHF_PEPTIDE_TWICE = 13,
+    /* the selection is not m bytes, or has a byte over 1 */
+    PHF_BAD_SELECTION = 14,
+    /* b is 0, or a is over b */
+    PHF_BAD_FRACTION = 15,
+    /* an output is shorter than needed */
+    PHF_SHORT_OUTPUT = 16
+};
+
+/* What phf_same adds to a number of its second file: PHF_OF_SECOND_FILE + PHF_BAD_LAYOUT is 105. */
+#define PHF_OF_SECOND_FILE 100
 
 /*
  * Is this an accepted family? Causes 1 to 10. If so, how many peptides (m), leaves (N) and regions (K) it has.
@@ -86,8 +139,8 @@ phf_part phf_regions(const uint8_t *file, size_t file_len);
  * that has at most z peptides in each region. Causes 1 to 10, 14, 16.
  *
  * selection: m bytes, byte i is 1 if peptide i + 1 is selected, else 0.
- * taken:     at least K bytes; the first K become 1 for a region that is taken, else 0, in the order of the file. The z
- *            of the taken regions and the selected peptides outside of them add up to the bound.
+ * taken:     at least K bytes; the first K become 1 for a region that is taken, else 0, in the order of the file, and the
+ *            rest is unchanged. The z of the taken regions and the selected peptides outside of them add up to the bound.
  */
 typedef struct phf_bounded {
     uint16_t number;
@@ -101,8 +154,10 @@ phf_bounded phf_bound(const uint8_t *file, size_t file_len,
 /*
  * The curve along a ranking. path is T different peptide numbers, T from 0 to m. Causes 1 to 13, 16.
  *
- * values: at least T + 1 numbers; values[t] becomes the bound of the first t peptides of the path, for t from 0 to T.
- * marks:  at least T bytes; marks[t - 1] becomes 1 if values[t] is one more than values[t - 1], else 0.
+ * values: at least T + 1 numbers; values[t] becomes the bound of the first t peptides of the path, for t from 0 to T, and
+ *         the rest is unchanged.
+ * marks:  at least T bytes; marks[t - 1] becomes 1 if values[t] is one more than values[t - 1], else 0, for t from 1 to T,
+ *         and the rest is unchanged.
  */
 typedef struct phf_curved {
     uint16_t number;
@@ -129,10 +184,11 @@ phf_cutting phf_cut(const uint8_t *file, size_t file_len,
                     uint16_t a, uint16_t b);
 
 /*
- * The reduced file of a family: the one file, of all families with the same bounds for every selection, that they all
- * reduce to. Causes 1 to 10, 16.
+ * The reduced file of a family: the one file that all families reduce to which have the same m and, for every selection,
+ * the same bound (equivalently, for every path, the same curve). Causes 1 to 10, 16.
  *
- * out: at least as long as the family file. The reduced file is its first `length` bytes and has `regions` regions.
+ * out: at least as long as the family file. Its first `length` bytes become the reduced file, which has `regions` regions,
+ *      and the rest is unchanged.
  */
 typedef struct phf_reduced {
     uint16_t number;
@@ -143,9 +199,10 @@ typedef struct phf_reduced {
 phf_reduced phf_reduce(const uint8_t *file, size_t file_len, uint8_t *out, size_t out_len);
 
 /*
- * Do two families give the same bounds? `same` is 1 exactly when their reduced files are equal, else 0; families with a
- * different number of peptides are not the same. Causes 1 to 10 of the first file, then those of the second, whose
- * numbers have 100 added (101 to 110).
+ * Do two families give the same bounds, which is the same m and, for every selection, the same bound (equivalently, for
+ * every path, the same curve)? `same` is 1 exactly when their reduced files are equal, else 0; families with a different
+ * number of peptides are not the same. Causes 1 to 10 of the first file, then those of the second, whose numbers have
+ * PHF_OF_SECOND_FILE added (101 to 110).
  */
 typedef struct phf_compared {
     uint16_t number;

@@ -1,4 +1,4 @@
-// Links the proved library, which `rt staticlib phf` writes.
+// Links the proved library, which tools/staticlib writes.
 use std::path::Path;
 
 fn main() {
@@ -7,7 +7,7 @@ fn main() {
     println!("cargo:rerun-if-changed={}", archive.display());
     if !archive.exists() {
         panic!(
-            "{} is missing: run `rt staticlib phf` first",
+            "{} is missing: run tools/staticlib first",
             archive.display()
         );
     }

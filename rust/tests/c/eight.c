@@ -1,5 +1,6 @@
 /*
- * The eight-peptide family from C: every call, and what it writes. The expected values are those of the scope document.
+ * The eight-peptide family from C: every call, what it writes, and every number by its name. The expected values are those
+ * of the scope document.
  * Compiled as C99 and as C++11. Prints `ok`, or the first line that does not hold.
  */
 #include <stdio.h>
@@ -112,12 +113,80 @@ static void reduce_and_same(void)
     HOLDS(compared.number == 105 && compared.same == 0);
 }
 
+static void put(uint8_t *file, size_t at, size_t number)
+{
+    file[at] = (uint8_t)(number & 255);
+    file[at + 1] = (uint8_t)(number >> 8);
+}
+
+/* What the check says of the eight-peptide family with another number at an offset. */
+static uint16_t number_with(size_t at, size_t number)
+{
+    uint8_t file[sizeof eight];
+    memcpy(file, eight, sizeof file);
+    put(file, at, number);
+    return phf_check(file, sizeof file).number;
+}
+
+/* What the check says of 65 leaves and so many regions, each but the first inside the one before it. */
+static uint16_t number_of_nested(size_t regions)
+{
+    uint8_t file[16 + 2 * 65 + 6 * 65] = {0x50, 0x48, 0x46, 0x42};
+    const size_t total = 16 + 2 * 65 + 6 * regions;
+    const size_t header[6] = {65, 65, regions, 16, 16 + 2 * 65, total};
+    size_t i;
+    for (i = 0; i < 6; i++)
+        put(file, 4 + 2 * i, header[i]);
+    for (i = 0; i < 65; i++)
+        put(file, 16 + 2 * i, 1);
+    for (i = 0; i < regions; i++) {
+        put(file, 16 + 2 * 65 + 6 * i, 1);
+        put(file, 16 + 2 * 65 + 6 * i + 2, 65 - i);
+    }
+    return phf_check(file, total).number;
+}
+
+static void numbers_of_files(void)
+{
+    HOLDS(number_with(4, 8) == PHF_DONE);
+    HOLDS(number_with(0, 0) == PHF_NOT_A_FAMILY_FILE);
+    HOLDS(number_with(4, 4097) == PHF_BAD_PEPTIDE_COUNT);
+    HOLDS(number_with(6, 9) == PHF_BAD_LEAF_COUNT);
+    HOLDS(number_with(8, 8) == PHF_TOO_MANY_REGIONS);
+    HOLDS(number_with(14, 55) == PHF_BAD_LAYOUT);
+    HOLDS(number_with(16, 1) == PHF_BAD_LEAF_LENGTHS);
+    HOLDS(number_with(24, 0) == PHF_BAD_REGION_LEAVES);
+    /* the second region becomes (1,2), as the first; the third (2,3), which crosses the first */
+    HOLDS(number_with(32, 2) == PHF_REGIONS_OUT_OF_ORDER);
+    HOLDS(number_with(38, 3) == PHF_REGIONS_CROSS);
+    HOLDS(number_of_nested(64) == PHF_DONE);
+    HOLDS(number_of_nested(65) == PHF_NESTED_TOO_DEEP);
+}
+
+static void numbers_of_other_inputs(void)
+{
+    const uint16_t path[9] = {1, 2, 3, 4, 5, 6, 7, 8, 9};
+    const uint16_t twice[2] = {3, 3};
+    const uint8_t selection[8] = {0, 0, 0, 2, 0, 0, 0, 0};
+    uint8_t out[54];
+    HOLDS(phf_cut(eight, sizeof eight, path, 9, 1, 2).number == PHF_PATH_TOO_LONG);
+    HOLDS(phf_cut(eight, sizeof eight, path + 8, 1, 1, 2).number == PHF_BAD_PATH_NUMBER);
+    HOLDS(phf_cut(eight, sizeof eight, twice, 2, 1, 2).number == PHF_PEPTIDE_TWICE);
+    HOLDS(phf_cut(eight, sizeof eight, path, 8, 2, 1).number == PHF_BAD_FRACTION);
+    HOLDS(phf_bound(eight, sizeof eight, selection, 8, out, 54).number == PHF_BAD_SELECTION);
+    HOLDS(phf_reduce(eight, sizeof eight, out, 53).number == PHF_SHORT_OUTPUT);
+    HOLDS(phf_same(eight, 53, eight, 53).number == PHF_BAD_LAYOUT);
+    HOLDS(phf_same(eight, 54, eight, 53).number == PHF_OF_SECOND_FILE + PHF_BAD_LAYOUT);
+}
+
 int main(void)
 {
     check_and_regions();
     bound();
     curve_and_cut();
     reduce_and_same();
+    numbers_of_files();
+    numbers_of_other_inputs();
     if (failures == 0)
         printf("ok\n");
     return failures != 0;
