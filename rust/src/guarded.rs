@@ -1,5 +1,5 @@
-//! The calls of the library, as the tests make them: every buffer is a copy between sentinels, and after every call each input
-//! is compared with what was given.
+//! The calls of the library, as the tests make them: every buffer is a copy between sentinels, and after every call each
+//! input is compared with what was given.
 
 use crate::buffers::{reading, writing};
 use crate::phf::{self, Bounded, Checked, Compared, Curved, Cutting, Part, Reduced};
