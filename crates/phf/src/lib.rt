@@ -7,16 +7,9 @@ use bounds::CutFound;
 use reader::Checked;
 use reduction::Compared;
 use reduction::ReducedFile;
-ghost use mathlib.Core.Path.{_≡_};
-ghost use mathlib.Core.List.{[], _∷_};
-ghost use lib.ListN.{take, drop};
-ghost use Rattle.reader.specs.Family.{familyOf};
-ghost use Rattle.reader.specs.Calls.{answer, checked, regionPart};
-ghost use Rattle.bounds.specs.Selections.{boundOf};
-ghost use Rattle.bounds.specs.Curves.{cutOf};
-ghost use Rattle.bounds.specs.Calls.{selectionCauses, curveCauses, cutCauses, TakenWrites, CurveValuesWrites, CurveMarksWrites};
-ghost use Rattle.reduction.specs.Calls.{reduceCauses, reducedCounts, ReduceWrites, compareCauses, comparison};
-ghost use Rattle.phf.specs.Fields.{checkedFields, partFields, boundedFields, CurveAnswer, CutAnswer, reducedFields, comparedFields};
+ghost use Rattle.bounds.specs.Calls.{TakenWrites, CurveValuesWrites, CurveMarksWrites};
+ghost use Rattle.reduction.specs.Calls.{ReduceWrites};
+ghost use Rattle.phf.specs.Calls.{PhfCheckAnswers, PhfRegionsAnswers, PhfRegionsPlaced, PhfBoundAnswers, PhfCurveAnswers, PhfCutAnswers, PhfReduceAnswers, PhfSameAnswers};
 
 #[repr(C)]
 pub struct PhfChecked {
@@ -67,7 +60,7 @@ pub struct PhfCompared {
 // Whether the bytes are an accepted family: m, N and K, or the number of the first cause that holds.
 #[no_mangle]
 pub extern "C" fn phf_check(file: &[u8]) -> PhfChecked
-    ensures { λ r. ⌜ r ≡ checkedFields (checked (now (file .entry))) ⌝ }
+    ensures { λ r. ⌜ PhfCheckAnswers (now (file .entry)) r ⌝ }
 {
     match reader::check(file) {
         Checked::Family {
@@ -93,8 +86,8 @@ pub extern "C" fn phf_check(file: &[u8]) -> PhfChecked
 // C cannot be handed a part of the file, so it gets the part's place.
 #[no_mangle]
 pub extern "C" fn phf_regions(file: &[u8]) -> PhfPart
-    ensures { λ r. ⌜ r ≡ partFields (now (file .entry)) ⌝ }
-    ensures { λ r. ⌜ take (r .length) (drop (r .offset) (now (file .entry))) ≡ regionPart (now (file .entry)) ⌝ }
+    ensures { λ r. ⌜ PhfRegionsAnswers (now (file .entry)) r ⌝ }
+    ensures { λ r. ⌜ PhfRegionsPlaced (now (file .entry)) r ⌝ }
 {
     match reader::check(file) {
         Checked::Family {
@@ -115,7 +108,7 @@ pub extern "C" fn phf_regions(file: &[u8]) -> PhfPart
 // The bound of a selection, and for each region, in file order, 1 if it is taken, else 0.
 #[no_mangle]
 pub extern "C" fn phf_bound(file: &[u8], selection: &[u8], taken: &mut [u8]) -> PhfBounded
-    ensures { λ r. ⌜ r ≡ boundedFields (answer (selectionCauses (now (file .entry)) (now (selection .entry)) (now (taken .entry))) (boundOf (familyOf (now (file .entry))) (now (selection .entry)) ∷ [])) ⌝ }
+    ensures { λ r. ⌜ PhfBoundAnswers (now (file .entry)) (now (selection .entry)) (now (taken .entry)) r ⌝ }
     ensures { λ _. ⌜ TakenWrites (now (file .entry)) (now (selection .entry)) (now (taken .entry)) (now (taken .exit)) ⌝ }
 {
     match bounds::bound(file, selection, taken) {
@@ -132,7 +125,7 @@ pub extern "C" fn phf_curve(
     values: &mut [u16],
     marks: &mut [u8],
 ) -> PhfCurved
-    ensures { λ r. ⌜ CurveAnswer (curveCauses (now (file .entry)) (now (path .entry)) (now (values .entry)) (now (marks .entry))) (now (path .entry)) r ⌝ }
+    ensures { λ r. ⌜ PhfCurveAnswers (now (file .entry)) (now (path .entry)) (now (values .entry)) (now (marks .entry)) r ⌝ }
     ensures { λ _. ⌜ CurveValuesWrites (now (file .entry)) (now (path .entry)) (now (values .entry)) (now (marks .entry)) (now (values .exit)) ⌝ }
     ensures { λ _. ⌜ CurveMarksWrites (now (file .entry)) (now (path .entry)) (now (values .entry)) (now (marks .entry)) (now (marks .exit)) ⌝ }
 {
@@ -149,7 +142,7 @@ pub extern "C" fn phf_curve(
 // The cut at q = a / b: the largest t at which entry t times b is at most a times t.
 #[no_mangle]
 pub extern "C" fn phf_cut(file: &[u8], path: &[u16], a: u16, b: u16) -> PhfCutting
-    ensures { λ r. ⌜ CutAnswer (cutCauses (now (file .entry)) (now (path .entry)) a b) (now (path .entry)) (cutOf (familyOf (now (file .entry))) (now (path .entry)) a b) r ⌝ }
+    ensures { λ r. ⌜ PhfCutAnswers (now (file .entry)) (now (path .entry)) a b r ⌝ }
 {
     match bounds::cut(file, path, a, b) {
         CutFound::At(cut) => PhfCutting {
@@ -173,7 +166,7 @@ pub extern "C" fn phf_cut(file: &[u8], path: &[u16], a: u16, b: u16) -> PhfCutti
 // Writes the reduced file at the start of the output: its length and number of regions.
 #[no_mangle]
 pub extern "C" fn phf_reduce(file: &[u8], out: &mut [u8]) -> PhfReduced
-    ensures { λ r. ⌜ r ≡ reducedFields (answer (reduceCauses (now (file .entry)) (now (out .entry))) (reducedCounts (now (file .entry)))) ⌝ }
+    ensures { λ r. ⌜ PhfReduceAnswers (now (file .entry)) (now (out .entry)) r ⌝ }
     ensures { λ _. ⌜ ReduceWrites (now (file .entry)) (now (out .entry)) (now (out .exit)) ⌝ }
 {
     match reduction::reduce(file, out) {
@@ -193,7 +186,7 @@ pub extern "C" fn phf_reduce(file: &[u8], out: &mut [u8]) -> PhfReduced
 // Whether two families reduce to the same file: 1 for yes, 0 for no.
 #[no_mangle]
 pub extern "C" fn phf_same(first: &[u8], second: &[u8]) -> PhfCompared
-    ensures { λ r. ⌜ r ≡ comparedFields (answer (compareCauses (now (first .entry)) (now (second .entry))) (comparison (now (first .entry)) (now (second .entry)))) ⌝ }
+    ensures { λ r. ⌜ PhfSameAnswers (now (first .entry)) (now (second .entry)) r ⌝ }
 {
     match reduction::same(first, second) {
         Compared::Same => PhfCompared { number: 0, same: 1 },

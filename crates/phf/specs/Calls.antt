@@ -1,0 +1,48 @@
+-- What the calls of the C interface promise, defined from their inputs. What they leave in lent lists is promised in the words of
+-- the libraries (`TakenWrites`, `CurveValuesWrites`, `CurveMarksWrites`, `ReduceWrites`). The theorem of demand 1 (`DemandOne`)
+-- rests on these promises.
+use Prim.Native.Nat.{ℕ}
+use mathlib.Core.List.{List, [], _∷_}
+use mathlib.Core.Path.{_≡_}
+use lib.ListN.{take, drop}
+use Rattle.reader.specs.Family.{familyOf}
+use Rattle.reader.specs.Calls.{answer, checked, regionPart}
+use Rattle.bounds.specs.Selections.{boundOf}
+use Rattle.bounds.specs.Curves.{cutOf}
+use Rattle.bounds.specs.Calls.{selectionCauses, curveCauses, cutCauses}
+use Rattle.reduction.specs.Calls.{reduceCauses, reducedCounts, compareCauses, comparison}
+use Rattle.phf.specs.Fields.{checkedFields, partFields, boundedFields, CurveAnswer, CutAnswer, reducedFields, comparedFields}
+use Rattle.phf.specs.declared.PhfChecked.{PhfChecked}
+use Rattle.phf.specs.declared.PhfPart.{PhfPart}
+use Rattle.phf.specs.declared.PhfBounded.{PhfBounded}
+use Rattle.phf.specs.declared.PhfCurved.{PhfCurved}
+use Rattle.phf.specs.declared.PhfCutting.{PhfCutting}
+use Rattle.phf.specs.declared.PhfReduced.{PhfReduced}
+use Rattle.phf.specs.declared.PhfCompared.{PhfCompared}
+
+-- the answer r of each call
+
+abbrev pub PhfCheckAnswers : List ℕ → PhfChecked → Type 0
+PhfCheckAnswers file r = r ≡ checkedFields (checked file)
+
+abbrev pub PhfRegionsAnswers : List ℕ → PhfPart → Type 0
+PhfRegionsAnswers file r = r ≡ partFields file
+
+-- the bytes at the place that `phf_regions` answers are the part that holds the regions
+abbrev pub PhfRegionsPlaced : List ℕ → PhfPart → Type 0
+PhfRegionsPlaced file r = take (r .length) (drop (r .offset) file) ≡ regionPart file
+
+abbrev pub PhfBoundAnswers : List ℕ → List ℕ → List ℕ → PhfBounded → Type 0
+PhfBoundAnswers file selection taken r = r ≡ boundedFields (answer (selectionCauses file selection taken) (boundOf (familyOf file) selection ∷ []))
+
+abbrev pub PhfCurveAnswers : List ℕ → List ℕ → List ℕ → List ℕ → PhfCurved → Type 0
+PhfCurveAnswers file path values marks r = CurveAnswer (curveCauses file path values marks) path r
+
+abbrev pub PhfCutAnswers : List ℕ → List ℕ → ℕ → ℕ → PhfCutting → Type 0
+PhfCutAnswers file path a b r = CutAnswer (cutCauses file path a b) path (cutOf (familyOf file) path a b) r
+
+abbrev pub PhfReduceAnswers : List ℕ → List ℕ → PhfReduced → Type 0
+PhfReduceAnswers file out r = r ≡ reducedFields (answer (reduceCauses file out) (reducedCounts file))
+
+abbrev pub PhfSameAnswers : List ℕ → List ℕ → PhfCompared → Type 0
+PhfSameAnswers first second r = r ≡ comparedFields (answer (compareCauses first second) (comparison first second))
