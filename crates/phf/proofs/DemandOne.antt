@@ -1,0 +1,204 @@
+-- Demand 1: every call with bad input gets the first cause that holds, with its number, and every lent list is unchanged; with no cause
+-- it does its work. Over all inputs, and over what each call answers and leaves by its promise. A slice that is lent to be read cannot
+-- be written, so only those that are lent for outputs are named; that every call ends is part of the proof of each function.
+use Prim.Native.Nat.{ℕ}
+use mathlib.Core.Bool.{cond}
+use mathlib.Core.List.{List, [], _∷_}
+use mathlib.Core.Path.{_≡_, refl, sym, ap, ap₂, _∙_}
+use mathlib.Core.Logic.{_⊎_, inl, inr, ⊎-elim, _↔_}
+use native.Mathlib.Omega.{arith}
+use lib.ListN.{length, getD, length-drop, drop-of-length-le}
+use lib.Dec.{eqb}
+use Rattle.reader.specs.Lists.{sameList}
+use Rattle.reader.specs.Bytes.{numberAt}
+use Rattle.reader.specs.Family.{familyOf, leaves, regionCount, regionsOffset}
+use Rattle.reader.specs.Causes.{Cause, firstCause, headerCauses, familyCauses, fileCauses, Accepted}
+use Rattle.reader.specs.Calls.{report, checked, regionPart}
+use Rattle.reader.specs.declared.Checked.{Checked}
+use Rattle.reader.specs.declared.Checked.the-variants as told
+use Rattle.reader.proofs.First.{Numbered, none-or-some}
+use Rattle.reader.proofs.Accepting.{accepted-header, whole-length, part-accepted, part-refused}
+use Rattle.bounds.specs.Selections.{boundOf, takenOf, totalsOf}
+use Rattle.bounds.specs.Curves.{curveValues, curveMarks, cutOf}
+use Rattle.bounds.specs.Calls.{reportBound, causesWithRoom, pathCauses, inputCauses, selectionCauses, curveCauses, cutCauses, BoundAnswers, TakenWrites, TotalsWrites, CurveAnswers, CurveValuesWrites, CurveMarksWrites, CurveDeclines, CutAnswers}
+use Rattle.bounds.specs.declared.Bounded.{Bounded}
+use Rattle.bounds.specs.declared.Bounded.the-variants as bounded
+use Rattle.bounds.specs.declared.Curved.{Curved}
+use Rattle.bounds.specs.declared.Curved.the-variants as curved
+use Rattle.bounds.specs.declared.CutFound.{CutFound}
+use Rattle.bounds.specs.declared.CutFound.the-variants as cutFound
+use Rattle.reduction.specs.Reduction.{reducedFile}
+use Rattle.reduction.specs.Calls.{reportReduced, reduceCauses, reducedCounts, reportCompared, compareCauses, comparison, ReduceAnswers, ReduceWrites, SameAnswers}
+use Rattle.reduction.specs.declared.ReducedFile.{ReducedFile}
+use Rattle.reduction.specs.declared.ReducedFile.the-variants as made
+use Rattle.reduction.specs.declared.Compared.{Compared}
+use Rattle.reduction.specs.declared.Compared.the-variants as compared
+use Rattle.phf.specs.Fields.{valueAt, valueWith, checkedFields, partFields, boundedFields, curvedFields, cuttingFields, reducedFields, comparedFields, CurveAnswer, CutAnswer}
+use Rattle.phf.specs.Calls.{PhfCheckAnswers, PhfRegionsAnswers, PhfBoundAnswers, PhfCurveAnswers, PhfCutAnswers, PhfReduceAnswers, PhfSameAnswers}
+use Rattle.phf.specs.Obeys.{numbers, NoneHolds, FirstHolds, atStart, Obeys, ObeysOnPath}
+use Rattle.phf.specs.declared.PhfChecked.{PhfChecked}
+use Rattle.phf.specs.declared.PhfPart.{PhfPart}
+use Rattle.phf.specs.declared.PhfBounded.{PhfBounded}
+use Rattle.phf.specs.declared.PhfCurved.{PhfCurved}
+use Rattle.phf.specs.declared.PhfCutting.{PhfCutting}
+use Rattle.phf.specs.declared.PhfReduced.{PhfReduced}
+use Rattle.phf.specs.declared.PhfCompared.{PhfCompared}
+use Rattle.phf.proofs.FieldLaws.{part-fields, no-part-fields}
+use Rattle.phf.proofs.Obeying.{first-is, none-holds, Lent, nothing-lent, lent-too, lent-one, made-obeys, remade-obeys, value-none, value-some, values-done, obeys-on-path}
+use Rattle.phf.proofs.LibraryAnswers.{checkedOf, boundedOf, reducedOf, comparedOf, checked-again, bounded-again, reduced-again, compared-again, yes-or-no, curve-refuses, curve-does, cut-refuses, cut-does}
+
+pub record DemandOne : Type 0 where
+  -- The first cause of a list has the number n exactly when a cause with this number holds and none before it. In a list that has no
+  -- cause with the number 0, as all below, it is 0 exactly when none holds.
+  pub first-cause : (cs : List Cause) (n : ℕ) → (n ≡ 0 → ⊥) → (firstCause cs ≡ n) ↔ FirstHolds cs n
+  pub no-cause : (cs : List Cause) → Numbered cs → (firstCause cs ≡ 0) ↔ NoneHolds cs
+  -- The causes that each call tries, in this order.
+  pub check-tries : (file : List ℕ) → numbers (fileCauses file) ≡ 1 ∷ 2 ∷ 3 ∷ 4 ∷ 5 ∷ 6 ∷ 7 ∷ 8 ∷ 9 ∷ 10 ∷ []
+  pub bound-tries : (file selection out : List ℕ) → numbers (selectionCauses file selection out) ≡ 1 ∷ 2 ∷ 3 ∷ 4 ∷ 5 ∷ 6 ∷ 7 ∷ 8 ∷ 9 ∷ 10 ∷ 14 ∷ 16 ∷ []
+  pub curve-tries : (file path values marks : List ℕ) → numbers (curveCauses file path values marks) ≡ 1 ∷ 2 ∷ 3 ∷ 4 ∷ 5 ∷ 6 ∷ 7 ∷ 8 ∷ 9 ∷ 10 ∷ 11 ∷ 12 ∷ 13 ∷ 16 ∷ []
+  pub cut-tries : (file path : List ℕ) (a b : ℕ) → numbers (cutCauses file path a b) ≡ 1 ∷ 2 ∷ 3 ∷ 4 ∷ 5 ∷ 6 ∷ 7 ∷ 8 ∷ 9 ∷ 10 ∷ 11 ∷ 12 ∷ 13 ∷ 15 ∷ []
+  pub reduce-tries : (file out : List ℕ) → numbers (reduceCauses file out) ≡ 1 ∷ 2 ∷ 3 ∷ 4 ∷ 5 ∷ 6 ∷ 7 ∷ 8 ∷ 9 ∷ 10 ∷ 16 ∷ []
+  pub same-tries : (first second : List ℕ) → numbers (compareCauses first second) ≡ 1 ∷ 2 ∷ 3 ∷ 4 ∷ 5 ∷ 6 ∷ 7 ∷ 8 ∷ 9 ∷ 10 ∷ 101 ∷ 102 ∷ 103 ∷ 104 ∷ 105 ∷ 106 ∷ 107 ∷ 108 ∷ 109 ∷ 110 ∷ []
+  -- The calls of C. For each, after its promises: its causes; its answer, the refusal with the number n, the answer of its work; its lent
+  -- lists after the call, before it, and with its work.
+  pub phf-check : (file : List ℕ) (r : PhfChecked) → PhfCheckAnswers file r
+      → Obeys (fileCauses file)
+      r (λ n. record { number = n; peptides = 0; leaves = 0; regions = 0 }) (record { number = 0; peptides = familyOf file .peptides; leaves = leaves (familyOf file); regions = regionCount (familyOf file) })
+      [] [] []
+  pub phf-bound : (file selection taken new : List ℕ) (r : PhfBounded) → PhfBoundAnswers file selection taken r → TakenWrites file selection taken new
+      → Obeys (selectionCauses file selection taken)
+      r (λ n. record { number = n; bound = 0 }) (record { number = 0; bound = boundOf (familyOf file) selection })
+      (new ∷ []) (taken ∷ []) (atStart (takenOf (familyOf file) selection) taken ∷ [])
+  pub phf-curve : (file path values marks newValues newMarks : List ℕ) (r : PhfCurved) → PhfCurveAnswers file path values marks r → CurveValuesWrites file path values marks newValues → CurveMarksWrites file path values marks newMarks
+      → ObeysOnPath (curveCauses file path values marks) path
+      r (λ n place. record { number = n; place = place }) (record { number = 0; place = 0 })
+      (newValues ∷ newMarks ∷ []) (values ∷ marks ∷ []) (atStart (curveValues (familyOf file) path) values ∷ atStart (curveMarks (familyOf file) path) marks ∷ [])
+  pub phf-cut : (file path : List ℕ) (a b : ℕ) (r : PhfCutting) → PhfCutAnswers file path a b r
+      → ObeysOnPath (cutCauses file path a b) path
+      r (λ n place. record { number = n; place = place; cut = 0 }) (record { number = 0; place = 0; cut = cutOf (familyOf file) path a b })
+      [] [] []
+  pub phf-reduce : (file out new : List ℕ) (r : PhfReduced) → PhfReduceAnswers file out r → ReduceWrites file out new
+      → Obeys (reduceCauses file out)
+      r (λ n. record { number = n; length = 0; regions = 0 }) (record { number = 0; length = numberAt (reducedFile file) 14; regions = numberAt (reducedFile file) 8 })
+      (new ∷ []) (out ∷ []) (atStart (reducedFile file) out ∷ [])
+  pub phf-same : (first second : List ℕ) (r : PhfCompared) → PhfSameAnswers first second r
+      → Obeys (compareCauses first second)
+      r (λ n. record { number = n; same = 0 }) (record { number = 0; same = cond (sameList (reducedFile first) (reducedFile second)) 1 0 })
+      [] [] []
+  -- The calls of the three libraries, in the same order.
+  pub check : (file : List ℕ) (r : Checked) → report r ≡ checked file
+      → Obeys (fileCauses file) r told.Refused (told.Family (familyOf file .peptides) (leaves (familyOf file)) (regionCount (familyOf file))) [] [] []
+  pub bound : (file selection taken new : List ℕ) (r : Bounded) → BoundAnswers file selection taken r → TakenWrites file selection taken new
+      → Obeys (selectionCauses file selection taken)
+      r bounded.Refused (bounded.Bound (boundOf (familyOf file) selection))
+      (new ∷ []) (taken ∷ []) (atStart (takenOf (familyOf file) selection) taken ∷ [])
+  pub inside-totals : (file selection out new : List ℕ) (r : Bounded) → BoundAnswers file selection out r → TotalsWrites file selection out new
+      → Obeys (selectionCauses file selection out)
+      r bounded.Refused (bounded.Bound (boundOf (familyOf file) selection))
+      (new ∷ []) (out ∷ []) (atStart (totalsOf (familyOf file) selection) out ∷ [])
+  pub curve : (file path values marks newValues newMarks : List ℕ) (r : Curved) → CurveAnswers file path values marks r → CurveDeclines file path values marks r → CurveValuesWrites file path values marks newValues → CurveMarksWrites file path values marks newMarks
+      → ObeysOnPath (curveCauses file path values marks) path
+      r (λ n place. cond (eqb n 13) (curved.Repeated place) (curved.Refused n)) curved.Written
+      (newValues ∷ newMarks ∷ []) (values ∷ marks ∷ []) (atStart (curveValues (familyOf file) path) values ∷ atStart (curveMarks (familyOf file) path) marks ∷ [])
+  pub cut : (file path : List ℕ) (a b : ℕ) (r : CutFound) → CutAnswers file path a b r
+      → ObeysOnPath (cutCauses file path a b) path
+      r (λ n place. cond (eqb n 13) (cutFound.Repeated place) (cutFound.Refused n)) (cutFound.At (cutOf (familyOf file) path a b))
+      [] [] []
+  pub reduce : (file out new : List ℕ) (r : ReducedFile) → ReduceAnswers file out r → ReduceWrites file out new
+      → Obeys (reduceCauses file out)
+      r made.Refused (made.Written (numberAt (reducedFile file) 14) (numberAt (reducedFile file) 8))
+      (new ∷ []) (out ∷ []) (atStart (reducedFile file) out ∷ [])
+  pub same : (first second : List ℕ) (r : Compared) → SameAnswers first second r
+      → Obeys (compareCauses first second)
+      r compared.Refused (cond (sameList (reducedFile first) (reducedFile second)) compared.Same compared.Different)
+      [] [] []
+  -- The part that holds the regions is empty exactly when the file is refused or K is 0; in C it has the length 0 exactly then.
+  pub regions : (file part : List ℕ) → part ≡ regionPart file → (part ≡ []) ↔ ((Accepted file → ⊥) ⊎ (regionCount (familyOf file) ≡ 0))
+  pub phf-regions : (file : List ℕ) (r : PhfPart) → PhfRegionsAnswers file r → (r .length ≡ 0) ↔ ((Accepted file → ⊥) ⊎ (regionCount (familyOf file) ≡ 0))
+
+-- The calls with a path.
+
+module _ (file path values marks newValues newMarks : List ℕ) (v : CurveValuesWrites file path values marks newValues) (w : CurveMarksWrites file path values marks newMarks) where
+  curve-lent : Lent (curveCauses file path values marks) (newValues ∷ newMarks ∷ []) (values ∷ marks ∷ []) (atStart (curveValues (familyOf file) path) values ∷ atStart (curveMarks (familyOf file) path) marks ∷ [])
+  curve-lent = lent-too _ _ values newValues (newMarks ∷ []) (marks ∷ []) _ v (lent-one _ _ marks newMarks w)
+
+phf-curve-says : (cs : List Cause) (path : List ℕ) (r : PhfCurved) (after before work : List (List ℕ)) → CurveAnswer cs path r → Lent cs after before work
+    → ObeysOnPath cs path r (λ n place. record { number = n; place = place }) (record { number = 0; place = 0 }) after before work
+unfolding curvedFields
+phf-curve-says cs path r after before work h lent =
+    let number = h .answers .number in
+    let fields : ℕ → ℕ → PhfCurved = λ n place. record { number = n; place = place } in
+    obeys-on-path cs path [] (h .told) (h .answers) r fields _ after before work
+    (λ some. h .fields ∙ ap (λ n. fields n (valueWith 13 (h .told))) number)
+    (λ none. h .fields ∙ ap₂ fields (number ∙ none) (value-none cs path [] (h .told) (h .answers) 13 (λ e. omega arith)))
+    lent
+
+phf-cut-says : (cs : List Cause) (path : List ℕ) (cut : ℕ) (r : PhfCutting) → CutAnswer cs path cut r
+    → ObeysOnPath cs path r (λ n place. record { number = n; place = place; cut = 0 }) (record { number = 0; place = 0; cut = cut }) [] [] []
+unfolding cuttingFields valueAt
+phf-cut-says cs path cut r h =
+    let number = h .answers .number in
+    let found = h .told in
+    let fields : ℕ → ℕ → ℕ → PhfCutting = λ n place t. record { number = n; place = place; cut = t } in
+    obeys-on-path cs path (cut ∷ []) found (h .answers) r (λ n place. fields n place 0) _ [] [] []
+    (λ some. h .fields ∙ ap₂ (λ n t. fields n (valueWith 13 found) t) number (value-none cs path (cut ∷ []) found (h .answers) 0 some))
+    (λ none.
+    let place = value-none cs path (cut ∷ []) found (h .answers) 13 (λ e. omega arith) in
+    let value : valueWith 0 found ≡ cut = value-some cs path (cut ∷ []) found (h .answers) 0 none ∙ ap (λ l. getD l 0 0) (values-done cs path (cut ∷ []) found (h .answers) none) in
+    h .fields ∙ ap₂ (fields (found .number)) place value ∙ ap (λ n. fields n 0 cut) (number ∙ none))
+    (nothing-lent cs)
+
+-- The part that holds the regions.
+
+module _ (file : List ℕ) where
+  exactly-then : {P : Type 0} → ((Accepted file → ⊥) → P) → (Accepted file → P ↔ (regionCount (familyOf file) ≡ 0))
+      → P ↔ ((Accepted file → ⊥) ⊎ (regionCount (familyOf file) ≡ 0))
+  exactly-then refused accepted =
+      let known = none-or-some (fileCauses file) in
+      (λ p. ⊎-elim (λ a. inr (accepted a .0 p)) inl known, λ z. ⊎-elim refused (λ k. ⊎-elim (λ a. accepted a .1 k) refused known) z)
+
+  part-empty : (regionPart file ≡ []) ↔ ((Accepted file → ⊥) ⊎ (regionCount (familyOf file) ≡ 0))
+  part-empty =
+      let o : ℕ = regionsOffset (leaves (familyOf file)) in
+      exactly-then
+      (part-refused file)
+      (λ a.
+      let whole = whole-length file (accepted-header file a) in (
+        λ e. omega (arith, length-drop o file, ap length (sym (part-accepted file a) ∙ e)),
+        λ k. part-accepted file a ∙ drop-of-length-le file {i = o} (omega arith),
+      ))
+
+  length-empty : (partFields file .length ≡ 0) ↔ ((Accepted file → ⊥) ⊎ (regionCount (familyOf file) ≡ 0))
+  length-empty =
+      exactly-then
+      (λ refused. ap (λ (p : PhfPart). p .length) (no-part-fields file refused))
+      (λ a. let six = ap (λ (p : PhfPart). p .length) (part-fields file a) in (λ e. omega arith, λ k. omega arith))
+
+pub demand-one : DemandOne
+unfolding headerCauses familyCauses fileCauses causesWithRoom pathCauses inputCauses curveCauses cutCauses reduceCauses compareCauses checked checkedFields boundedFields reducedFields comparedFields valueAt reducedCounts comparison checkedOf boundedOf reducedOf comparedOf
+demand-one =
+    record {
+      first-cause = first-is;
+      no-cause = none-holds;
+      check-tries = λ file. refl;
+      bound-tries = λ file selection out. refl;
+      curve-tries = λ file path values marks. refl;
+      cut-tries = λ file path a b. refl;
+      reduce-tries = λ file out. refl;
+      same-tries = λ first second. refl;
+      phf-check = λ file r h. made-obeys (fileCauses file) _ checkedFields r [] [] [] h (nothing-lent (fileCauses file));
+      phf-bound = λ file selection taken new r h w. made-obeys (selectionCauses file selection taken) _ boundedFields r (new ∷ []) _ _ h (lent-one _ _ _ _ w);
+      phf-curve = λ file path values marks newValues newMarks r h v w. phf-curve-says _ path r _ _ _ h (curve-lent file path values marks newValues newMarks v w);
+      phf-cut = λ file path a b r h. phf-cut-says _ path _ r h;
+      phf-reduce = λ file out new r h w. made-obeys (reduceCauses file out) _ reducedFields r (new ∷ []) _ _ h (lent-one _ _ _ _ w);
+      phf-same = λ first second r h. made-obeys (compareCauses first second) _ comparedFields r [] [] [] h (nothing-lent _);
+      check = λ file r h. remade-obeys (fileCauses file) _ report checkedOf checked-again r [] [] [] h (nothing-lent (fileCauses file));
+      bound = λ file selection taken new r h w. remade-obeys (selectionCauses file selection taken) _ reportBound boundedOf bounded-again r (new ∷ []) _ _ h (lent-one _ _ _ _ w);
+      inside-totals = λ file selection out new r h w. remade-obeys (selectionCauses file selection out) _ reportBound boundedOf bounded-again r (new ∷ []) _ _ h (lent-one _ _ _ _ w);
+      curve = λ file path values marks newValues newMarks r h d v w. obeys-on-path _ path [] _ h r _ _ _ _ _ (curve-refuses _ path r h) (curve-does _ path r h d) (curve-lent file path values marks newValues newMarks v w);
+      cut = λ file path a b r h. obeys-on-path _ path _ _ h r _ _ [] [] [] (cut-refuses _ path _ r h) (cut-does _ path _ r h) (nothing-lent _);
+      reduce = λ file out new r h w. remade-obeys (reduceCauses file out) _ reportReduced reducedOf reduced-again r (new ∷ []) _ _ h (lent-one _ _ _ _ w);
+      same = λ first second r h. rw (← yes-or-no (sameList (reducedFile first) (reducedFile second))) (remade-obeys (compareCauses first second) _ reportCompared comparedOf compared-again r [] [] [] h (nothing-lent _));
+      regions = λ file part h. rw h (part-empty file);
+      phf-regions = λ file r h. rw h (length-empty file);
+    }

@@ -1,0 +1,127 @@
+-- How a promise in the words of `answer` and `written` becomes demand 1.
+use Prim.Native.Nat.{ℕ, _≤_}
+use mathlib.Core.Bool.{true}
+use mathlib.Core.List.{List, [], _∷_, _++_}
+use mathlib.Core.Path.{_≡_, refl, sym, ap, ap₂, _∙_}
+use mathlib.Core.Logic.{⊎-elim, _↔_}
+use native.Mathlib.Omega.{arith}
+use lib.ListN.{length, getD}
+use borrow.Author.Tests.{eq-eqb, ne-eqb}
+use Rattle.reader.specs.Causes.{Cause, firstCause}
+use Rattle.reader.specs.Calls.{Report, answer, written}
+use Rattle.reader.proofs.Bools.{test}
+use Rattle.reader.proofs.First.{Numbered, first-holds, first-fails, head-clear, answers, declines, writes, leaves-unchanged}
+use Rattle.bounds.specs.Curves.{repeated}
+use Rattle.bounds.specs.Calls.{Answers}
+use Rattle.phf.specs.Fields.{valueAt, valueWith}
+use Rattle.phf.specs.Obeys.{NoneHolds, FirstHolds, atStart, Obeys, ObeysOnPath}
+
+-- The first cause that holds.
+
+none-clear : (cs : List Cause) → NoneHolds cs → firstCause cs ≡ 0
+unfolding firstCause
+none-clear [] h = refl
+none-clear (c ∷ cs) h = first-fails c cs (h .0) ∙ none-clear cs (h .1)
+
+clear-none : (cs : List Cause) → Numbered cs → firstCause cs ≡ 0 → NoneHolds cs
+clear-none [] n h = tt
+clear-none (c ∷ cs) n h = let a = head-clear c cs (n .0) h in (a .0, clear-none cs (n .1) (a .1))
+
+pub none-holds : (cs : List Cause) → Numbered cs → (firstCause cs ≡ 0) ↔ NoneHolds cs
+none-holds cs n = (clear-none cs n, none-clear cs)
+
+first-found : (cs : List Cause) → (firstCause cs ≡ 0 → ⊥) → FirstHolds cs (firstCause cs)
+first-found [] h = absurd (h (unfold firstCause in refl))
+first-found (c ∷ cs) h =
+    ⊎-elim
+    (λ t. record { earlier = []; first = c; later = cs; split = refl; none-earlier = tt; holds = t; numbered = sym (first-holds c cs t) })
+    (λ f.
+    let g = first-found cs (λ z. h (first-fails c cs f ∙ z)) in
+    record {
+      earlier = c ∷ g .earlier;
+      first = g .first;
+      later = g .later;
+      split = ap (λ l. c ∷ l) (g .split);
+      none-earlier = (f, g .none-earlier);
+      holds = g .holds;
+      numbered = g .numbered ∙ sym (first-fails c cs f);
+    })
+    (test (c .holds))
+
+after-none : (before after : List Cause) → NoneHolds before → firstCause (before ++ after) ≡ firstCause after
+after-none [] after h = refl
+after-none (c ∷ before) after h = first-fails c (before ++ after) (h .0) ∙ after-none before after (h .1)
+
+pub first-is : (cs : List Cause) (n : ℕ) → (n ≡ 0 → ⊥) → (firstCause cs ≡ n) ↔ FirstHolds cs n
+first-is cs n some = (
+  λ e. rw e at (first-found cs (λ z. some (sym e ∙ z))),
+  λ h. ap firstCause (h .split) ∙ after-none (h .earlier) (h .first ∷ h .later) (h .none-earlier) ∙ first-holds (h .first) (h .later) (h .holds) ∙ h .numbered,
+)
+
+-- Lent lists.
+
+-- unchanged if a cause holds, else with what the call writes
+abbrev pub Lent : List Cause → List (List ℕ) → List (List ℕ) → List (List ℕ) → Type 0
+Lent cs after before work = ((firstCause cs ≡ 0 → ⊥) → after ≡ before) × (firstCause cs ≡ 0 → after ≡ work)
+
+pub nothing-lent : (cs : List Cause) → Lent cs [] [] []
+nothing-lent cs = (λ some. refl, λ none. refl)
+
+pub lent-too : (cs : List Cause) (content old new : List ℕ) (after before work : List (List ℕ)) → new ≡ written cs content old → Lent cs after before work
+    → Lent cs (new ∷ after) (old ∷ before) (atStart content old ∷ work)
+lent-too cs content old new after before work w rest = (
+  λ some. ap₂ (λ l ls. l ∷ ls) (w ∙ leaves-unchanged cs some content old) (rest .0 some),
+  λ none. ap₂ (λ l ls. l ∷ ls) (w ∙ writes cs none content old) (rest .1 none),
+)
+
+pub lent-one : (cs : List Cause) (content old new : List ℕ) → new ≡ written cs content old → Lent cs (new ∷ []) (old ∷ []) (atStart content old ∷ [])
+lent-one cs content old new w = lent-too cs content old new [] [] [] w (nothing-lent cs)
+
+-- Answers.
+
+-- an answer that is made of the number and the values
+pub made-obeys : {A : Type 0} (cs : List Cause) (result : List ℕ) (make : Report → A) (r : A) (after before work : List (List ℕ)) → r ≡ make (answer cs result) → Lent cs after before work
+    → Obeys cs r (λ n. make (record { number = n; values = [] })) (make (record { number = 0; values = result })) after before work
+made-obeys cs result make r after before work h lent =
+    record {
+      declined = λ some. (h ∙ ap make (declines cs some result), lent .0 some);
+      done = λ none. (h ∙ ap make (answers cs none result), lent .1 none);
+    }
+
+-- an answer that can be made again of its report
+pub remade-obeys : {A : Type 0} (cs : List Cause) (result : List ℕ) (report : A → Report) (make : ℕ → List ℕ → A) → ((r : A) → r ≡ make (report r .number) (report r .values))
+    → (r : A) (after before work : List (List ℕ)) → report r ≡ answer cs result → Lent cs after before work
+    → Obeys cs r (λ n. make n []) (make 0 result) after before work
+remade-obeys cs result report make again r after before work h lent =
+    made-obeys cs result (λ told. make (told .number) (told .values)) r after before work (again r ∙ ap (λ told. make (told .number) (told .values)) h) lent
+
+-- The place and the value of an answer on a path.
+module _ (cs : List Cause) (path result : List ℕ) (told : Report) (h : Answers cs path result told) where
+  pub value-none : (n : ℕ) → (firstCause cs ≡ n → ⊥) → valueWith n told ≡ 0
+  unfolding valueWith
+  value-none n other = rw (ne-eqb (told .number) n (λ e. other (sym (h .number) ∙ e)))
+
+  pub value-some : (n : ℕ) → firstCause cs ≡ n → valueWith n told ≡ valueAt told 0
+  unfolding valueWith
+  value-some n e = rw (eq-eqb (told .number) n (h .number ∙ e))
+
+  pub values-done : firstCause cs ≡ 0 → told .values ≡ result
+  values-done none = h .values (λ e. omega arith) ∙ ap (λ (r : Report). r .values) (answers cs none result)
+
+  pub place-repeats : firstCause cs ≡ 13 → (1 ≤ valueWith 13 told) × (valueWith 13 told ≤ length path) × (repeated path (valueWith 13 told) ≡ true)
+  unfolding valueAt
+  place-repeats e =
+      let p = h .place e in
+      let here : valueWith 13 told ≡ p .0 = value-some 13 e ∙ ap (λ (l : List ℕ). getD l 0 0) (p .3) in
+      rw here (p .1, p .2, p .4)
+
+  pub obeys-on-path : {A : Type 0} (answer : A) (refusal : ℕ → ℕ → A) (work : A) (after before new : List (List ℕ))
+      → ((firstCause cs ≡ 0 → ⊥) → answer ≡ refusal (firstCause cs) (valueWith 13 told)) → (firstCause cs ≡ 0 → answer ≡ work) → Lent cs after before new
+      → ObeysOnPath cs path answer refusal work after before new
+  obeys-on-path answer refusal work after before new declined done lent =
+      record {
+        place = valueWith 13 told;
+        obeys = record { declined = λ some. (declined some, lent .0 some); done = λ none. (done none, lent .1 none) };
+        repeats = place-repeats;
+        no-place = value-none 13;
+      }
