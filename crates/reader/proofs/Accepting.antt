@@ -2,12 +2,13 @@
 use Prim.Native.Nat.{ℕ, zero, suc, _+_, _-_, _<_, _≤_}
 use native.Mathlib.Omega.{arith}
 use native.Mathlib.Numerals.{add-one}
-use mathlib.Core.Bool.{false, cond}
+use mathlib.Core.Bool.{Bool, true, false, cond}
 use mathlib.Core.List.{List, [], _∷_, _++_}
-use mathlib.Core.Path.{_≡_, sym, _∙_}
+use mathlib.Core.Path.{_≡_, refl, sym, ap, _∙_}
 use mathlib.Core.Logic.{inl, inr, ⊎-elim}
 use lib.ListN.{length, take, drop}
-use lib.Dec.{leb}
+use lib.Seq.{take-length}
+use lib.Dec.{leb, eqb}
 use borrow.Author.Tests.{ne-eqb}
 use Rattle.reader.specs.Bytes.{IsBytes}
 use Rattle.reader.specs.Family as family
@@ -16,7 +17,7 @@ use Rattle.reader.specs.Causes.{cause1, cause2, cause3, cause4, cause5, 
 use Rattle.reader.specs.WellFormed.{Ordered, WellFormed, ParentsBelow}
 use Rattle.reader.specs.InPlace.{Whole}
 use Rattle.reader.specs.declared.Checked.the-variants.{Family as Accepts, Refused}
-use Rattle.reader.specs.Calls.{report, checked, regionPart, withParents}
+use Rattle.reader.specs.Calls.{report, checked, regionPart, partStart, RegionsGiven, withParents}
 use Rattle.reader.proofs.Below.{below-suc}
 use Rattle.reader.proofs.Parsed.{leaves-read, regions-read, region-read, number-fits}
 use Rattle.reader.proofs.First.{Numbered, head-clear, join-clear, join-holds, clear-left, clear-right, answers, declines, learns-number, learns-values}
@@ -192,6 +193,27 @@ module _ (s : List ℕ) where
   pub part-refused : (firstCause (fileCauses s) ≡ 0 → ⊥) → regionPart s ≡ []
   unfolding regionPart
   part-refused h = rw (ne-eqb (firstCause (fileCauses s)) 0 h)
+
+  -- where it begins
+  pub start-accepted : Accepted s → partStart s ≡ regionsOffset (leaves (familyOf s))
+  unfolding partStart
+  start-accepted h = rw h
+
+  pub start-refused : (firstCause (fileCauses s) ≡ 0 → ⊥) → partStart s ≡ 0
+  unfolding partStart
+  start-refused h = rw (ne-eqb (firstCause (fileCauses s)) 0 h)
+
+  part-from : regionPart s ≡ take (length (regionPart s)) (drop (partStart s) s)
+  unfolding regionPart partStart
+  part-from = go (eqb (firstCause (fileCauses s)) 0) (regionsOffset (leaves (familyOf s)))
+    where
+      go : (b : Bool) (n : ℕ) → cond b (drop n s) [] ≡ take (length (cond b (drop n s) [])) (drop (cond b n 0) s)
+      go true n = sym (take-length (drop n s))
+      go false n = refl
+
+  pub part-given : {q p : ℕ × ℕ} {r : List ℕ} → q .0 ≡ p .0 → q .1 ≡ p .1 + partStart s → r ≡ regionPart s → RegionsGiven q r p s
+  part-given b o e =
+      record { part = record { block = b; place = o; bytes = e ∙ part-from ∙ ap (λ (l : List ℕ). take (length l) (drop (partStart s) s)) (sym e) }; bytes = e }
 
   -- a lent list with the parents
   pub parents-refused : (firstCause (fileCauses s) ≡ 0 → ⊥) → (out : List ℕ) → withParents s out ≡ out

@@ -1,8 +1,9 @@
 -- What the calls of `reader` answer, defined from the bytes of the file.
-use Prim.Native.Nat.{ℕ}
+use Prim.Native.Nat.{ℕ, _+_}
 use mathlib.Core.Bool.{cond, _&&_}
 use mathlib.Core.List.{List, [], _∷_, _++_}
-use lib.ListN.{length, drop}
+use mathlib.Core.Path.{_≡_}
+use lib.ListN.{length, take, drop}
 use lib.Dec.{leb, eqb}
 use Rattle.reader.specs.Family as family
 use Rattle.reader.specs.Family.{familyOf, leaves, regionCount, regionsOffset}
@@ -37,6 +38,22 @@ checked s = answer (fileCauses s) (familyOf s .peptides ∷ leaves (familyOf s) 
 -- the part of an accepted file that holds the regions; nothing of any other file
 unfoldable pub regionPart : List ℕ → List ℕ
 regionPart s = cond (eqb (firstCause (fileCauses s)) 0) (drop (regionsOffset (leaves (familyOf s))) s) []
+
+-- the byte of the file at which that part begins; of a refused file the first
+unfoldable pub partStart : List ℕ → ℕ
+partStart s = cond (eqb (firstCause (fileCauses s)) 0) (regionsOffset (leaves (familyOf s))) 0
+
+-- Where a slice lies is a pair: its block of memory, and how many bytes of the block come before it.
+-- The slice r that lies at q is the part of the slice s that lies at p, from byte start of it on: equal bytes that lie elsewhere are not.
+pub record PartOf (q : ℕ × ℕ) (r : List ℕ) (p : ℕ × ℕ) (s : List ℕ) (start : ℕ) : Type 0 where
+  pub block : q .0 ≡ p .0
+  pub place : q .1 ≡ p .1 + start
+  pub bytes : r ≡ take (length r) (drop start s)
+
+-- what `regions` hands back, r at q, of a file s at p
+pub record RegionsGiven (q : ℕ × ℕ) (r : List ℕ) (p : ℕ × ℕ) (s : List ℕ) : Type 0 where
+  pub part : PartOf q r p s (partStart s)
+  pub bytes : r ≡ regionPart s
 
 -- a lent list after the call: the parents from its start where the file is accepted and the list has room for them, else as it was
 unfoldable pub withParents : List ℕ → List ℕ → List ℕ

@@ -23,7 +23,7 @@ ghost use lib.Dec.{leb};
 ghost use Rattle.reader.specs.Family.{familyOf};
 ghost use Rattle.reader.specs.Causes.{firstCause, headerCauses, fileCauses};
 ghost use Rattle.reader.specs.Climb.{FamilyJudged, Judged};
-ghost use Rattle.reader.specs.Calls.{report, checked, regionPart, withParents};
+ghost use Rattle.reader.specs.Calls.{report, checked, RegionsGiven, withParents};
 
 // An accepted family with m, N and K, or the number of the first cause that holds.
 pub enum Checked {
@@ -95,7 +95,7 @@ pub fn check(file: &[u8]) -> Checked
 
 // The part of the file that holds the regions; empty if the file is refused or has none.
 pub fn regions<'a>(file: &'a [u8]) -> &'a [u8]
-    ensures { λ r. ⌜ now r ≡ regionPart (now (file .entry)) ⌝ }
+    ensures { λ r. ⌜ RegionsGiven (r .ptr) (now r) (file .entry .ptr) (now (file .entry)) ⌝ }
 {
     match check(file) {
         Checked::Family {

@@ -1,13 +1,14 @@
 -- The regions begin after the leaf lengths, and an accepted file ends with them.
 use Prim.Native.Nat.{ℕ, _+_, _*_, _≤_, _-_}
 use native.Mathlib.Omega.{arith}
-use mathlib.Core.Path.{sym, ap, _∙_}
+use mathlib.Core.Path.{_≡_, refl, sym, ap, _∙_}
 use lib.ListN.{length, drop, length-drop}
 use lib.Seq.{take-all}
 use denote.Ref.{now}
 use Rattle.reader.specs.Family.{leaves}
+use Rattle.reader.specs.Causes.{firstCause, fileCauses}
 use Rattle.reader.specs.Calls.{report}
-use Rattle.reader.proofs.Accepting.{accepted-header, whole-length, learns-accepted, learns-refused, part-accepted, part-refused}
+use Rattle.reader.proofs.Accepting.{accepted-header, whole-length, learns-accepted, learns-refused, part-accepted, part-refused, start-accepted, start-refused, part-given}
 use borrow.Author.Needs.{needs}
 use Rattle.reader.proofs.regions.Statement.{statement}
 use Rattle.reader.proofs.regions.Tie as tie
@@ -60,15 +61,19 @@ returns c =
     let s = now (c .before .before .before .before .before .before .args .file) in
     let n = c .before .before .leaves .given .0 .1 .0 in
     let a = learns-accepted s _ _ _ (ap report (sym (c .before .before .leaves .given .1)) ∙ c .before .before .before .before .check .ensures) in
-    take-all (length s - (16 + 2 * n)) (drop (16 + 2 * n) s) (omega (arith, length-drop (16 + 2 * n) s))
+    part-given s
+    refl
+    (omega (arith, a .leaves, start-accepted s (a .accepted)))
+    (take-all (length s - (16 + 2 * n)) (drop (16 + 2 * n) s) (omega (arith, length-drop (16 + 2 * n) s))
     ∙ ap (λ (n : ℕ). drop (16 + 2 * n) s) (a .leaves)
-    ∙ sym (part-accepted s (a .accepted))
+    ∙ sym (part-accepted s (a .accepted)))
 
 returns-2 : tie.Need-returns-2
 returns-2 c =
     let s = now (c .before .before .before .before .before .args .file) in
     let r = learns-refused s _ (ap report (sym (c .before .enum-told .given .1)) ∙ c .before .before .before .check .ensures) in
-    sym (part-refused s (λ e. r .1 (r .0 ∙ e)))
+    let some : firstCause (fileCauses s) ≡ 0 → ⊥ = λ e. r .1 (r .0 ∙ e) in
+    part-given s refl (omega (arith, start-refused s some)) (sym (part-refused s some))
 
 pub regions-spec : {M : Type 1} → statement M
 regions-spec =
