@@ -36,13 +36,13 @@ add-from : tie.Need-add-from
 add-from c = search needs
 
 sub-result : tie.Need-sub-result
-sub-result c = inside (c .before)
+sub-result c = omega (arith, inside (c .before))
 
 part-result-start : tie.Need-part-result-start
-part-result-start c = inside (c .before)
+part-result-start c = omega (arith, inside (c .before))
 
 part-result-end : tie.Need-part-result-end
-part-result-end c = search needs
+part-result-end c = omega (arith, inside (c .before))
 
 enum-told : tie.Need-enum-told
 enum-told c = search needs
