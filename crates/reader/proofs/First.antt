@@ -78,6 +78,11 @@ module _ (cs : List Cause) where
   unfolding written
   leaves-unchanged h new old = rw (ne-eqb (firstCause cs) 0 h)
 
+  -- the answer rests on the first cause alone
+  pub same-first : (ds : List Cause) → firstCause cs ≡ firstCause ds → (values : List ℕ) → answer cs values ≡ answer ds values
+  unfolding answer
+  same-first ds e values = rw e
+
   pub none-or-some : (firstCause cs ≡ 0) ⊎ (firstCause cs ≡ 0 → ⊥)
   none-or-some = ⊎-elim (λ t. inl (eqb-true (firstCause cs) 0 t)) (λ f. inr (eqb-false (firstCause cs) 0 f)) (test (eqb (firstCause cs) 0))
 

@@ -1,4 +1,4 @@
--- The parents as defined are the regions just around, so a lent list with the parents of an accepted file has them.
+-- The parents as defined are the regions just around, so the list that `parents` leaves has them.
 use Prim.Native.Nat.{ℕ, zero, suc, _-_, _<_, _≤_}
 use native.Mathlib.Nat.{eq-or-lt-of-le}
 use native.Mathlib.Omega.{arith}
@@ -7,17 +7,18 @@ use mathlib.Core.Path.{_≡_, sym, ap, subst, _∙_}
 use mathlib.Core.Logic.{⊎-elim}
 use lib.ListN.{length, getD, drop, List·getD-append}
 use lib.Dec.{leb}
-use borrow.Author.Tests.{leb-true, leb-false, le-leb}
+use borrow.Author.Tests.{leb-true, leb-false}
 use Rattle.reader.specs.Family.{Family, familyOf, regionCount, region}
 use Rattle.reader.specs.Nesting.{parent, parents}
-use Rattle.reader.specs.Causes.{Accepted}
-use Rattle.reader.specs.Calls.{withParents}
+use Rattle.reader.specs.Causes.{firstCause, fileCauses}
+use Rattle.reader.specs.Calls.{parentsCauses, ParentsWrites}
 use Rattle.reader.specs.WellFormed.{Ordered, NestedBelow, IsParent, ParentsBelow}
 use Rattle.reader.proofs.Bools.{test}
 use Rattle.reader.proofs.Below.{below-suc}
 use Rattle.reader.proofs.Lists.{length-tabulate, getD-tabulate}
 use Rattle.reader.proofs.Climbing.{parent-is, nested-if-clear}
-use Rattle.reader.proofs.Accepting.{ordered-if-clear, accepted-family}
+use Rattle.reader.proofs.First.{clear-left}
+use Rattle.reader.proofs.Accepting.{ordered-if-clear, file-numbered, accepted-family, parents-start}
 
 -- c is the number of the last of the first n regions that ends with the k-th one or later
 record Reaching (F : Family) (k n c : ℕ) : Type 0 where
@@ -86,18 +87,15 @@ module _ (F : Family) (o : Ordered F) (nested : NestedBelow F (regionCount F)) w
   unfolding parents
   parents-known k lk = subst (IsParent F k) (sym (getD-tabulate (regionCount F) (parent F) 0 k lk)) (parent-known k lk)
 
-module _ (s : List ℕ) (accepted : Accepted s) (out : List ℕ) (room : regionCount (familyOf s) ≤ length out) where
-  written-as : withParents s out ≡ parents (familyOf s) ++ drop (regionCount (familyOf s)) out
-  unfolding withParents
-  written-as = rw (accepted, le-leb (regionCount (familyOf s)) (length out) room)
-
-  -- a lent list with room has the parents of an accepted file
-  pub parents-given : ParentsBelow (familyOf s) (withParents s out) (regionCount (familyOf s))
-  unfolding parents
-  parents-given k lk =
-      let F : Family = familyOf s in
-      let clear = accepted-family s accepted in
-      let o = ordered-if-clear F (clear .no7) (clear .no8) in
-      subst (IsParent F k)
-      (sym (ap (λ (l : List ℕ). getD l k 0) written-as ∙ List·getD-append (parents F) (drop (regionCount F) out) 0 k (omega (arith, length-tabulate (regionCount F) (parent F)))))
-      (parents-known F o (nested-if-clear F o (clear .no9)) k lk)
+-- Where no cause of `parents` holds, the list that it leaves has the region just around each region.
+pub parents-given :
+    (s out : List ℕ) → firstCause (parentsCauses s out) ≡ 0 → (new : List ℕ) → ParentsWrites s out new
+    → ParentsBelow (familyOf s) new (regionCount (familyOf s))
+unfolding parentsCauses parents
+parents-given s out none new e k lk =
+    let F : Family = familyOf s in
+    let clear = accepted-family s (clear-left (fileCauses s) _ (file-numbered s) none) in
+    let o = ordered-if-clear F (clear .no7) (clear .no8) in
+    subst (IsParent F k)
+    (sym (ap (λ (l : List ℕ). getD l k 0) (e ∙ parents-start s out none) ∙ List·getD-append (parents F) (drop (regionCount F) out) 0 k (omega (arith, length-tabulate (regionCount F) (parent F)))))
+    (parents-known F o (nested-if-clear F o (clear .no9)) k lk)

@@ -1,10 +1,10 @@
 -- What the calls of `reader` answer, defined from the bytes of the file.
 use Prim.Native.Nat.{ℕ, _+_}
-use mathlib.Core.Bool.{cond, _&&_}
+use mathlib.Core.Bool.{Bool, cond}
 use mathlib.Core.List.{List, [], _∷_, _++_}
 use mathlib.Core.Path.{_≡_}
 use lib.ListN.{length, take, drop}
-use lib.Dec.{leb, eqb}
+use lib.Dec.{ltb, eqb}
 use Rattle.reader.specs.Family as family
 use Rattle.reader.specs.Family.{familyOf, leaves, regionCount, regionsOffset}
 use Rattle.reader.specs.Nesting.{parents}
@@ -31,9 +31,13 @@ unfoldable pub report : Checked → Report
 report (Family m n k) = record { number = 0; values = m ∷ n ∷ k ∷ [] }
 report (Refused n) = record { number = n; values = [] }
 
+-- m, N and K
+abbrev pub counts : family.Family → List ℕ
+counts F = F .peptides ∷ leaves F ∷ regionCount F ∷ []
+
 -- m, N and K of an accepted file, else the number of the first cause that holds
 unfoldable pub checked : List ℕ → Report
-checked s = answer (fileCauses s) (familyOf s .peptides ∷ leaves (familyOf s) ∷ regionCount (familyOf s) ∷ [])
+checked s = answer (fileCauses s) (counts (familyOf s))
 
 -- the part of an accepted file that holds the regions; nothing of any other file
 unfoldable pub regionPart : List ℕ → List ℕ
@@ -55,12 +59,20 @@ pub record RegionsGiven (q : ℕ × ℕ) (r : List ℕ) (p : ℕ × ℕ) (s : Li
   pub part : PartOf q r p s (partStart s)
   pub bytes : r ≡ regionPart s
 
--- a lent list after the call: the parents from its start where the file is accepted and the list has room for them, else as it was
-unfoldable pub withParents : List ℕ → List ℕ → List ℕ
-withParents s out =
-    cond (eqb (firstCause (fileCauses s)) 0 && leb (regionCount (familyOf s)) (length out))
-    (parents (familyOf s) ++ drop (regionCount (familyOf s)) out)
-    out
+-- an output with fewer places than needed
+unfoldable pub short : ℕ → ℕ → Bool
+short needed room = ltb room needed
+
+-- the causes of `parents`: those of the file, then fewer places than K
+unfoldable pub parentsCauses : List ℕ → List ℕ → List Cause
+parentsCauses file out = fileCauses file ++ (record { number = 16; holds = short (regionCount (familyOf file)) (length out) } ∷ [])
+
+-- its answer r, and what it leaves in the lent list
+abbrev pub ParentsAnswers : List ℕ → List ℕ → Checked → Type 0
+ParentsAnswers file out r = report r ≡ answer (parentsCauses file out) (counts (familyOf file))
+
+abbrev pub ParentsWrites : List ℕ → List ℕ → List ℕ → Type 0
+ParentsWrites file out new = new ≡ written (parentsCauses file out) (parents (familyOf file)) out
 
 -- the region that a struct holds
 unfoldable pub held : Region → family.Region

@@ -15,15 +15,13 @@ use family::region_count;
 use nesting::fill_parents;
 use nesting::too_deep;
 ghost use mathlib.Core.Path.{_≡_};
-ghost use mathlib.Core.Bool.{cond};
 ghost use mathlib.Core.List.{_++_};
 ghost use Prim.Native.Nat.{_≤_};
 ghost use lib.ListN.{length, take, drop};
-ghost use lib.Dec.{leb};
 ghost use Rattle.reader.specs.Family.{familyOf};
 ghost use Rattle.reader.specs.Causes.{firstCause, headerCauses, fileCauses};
 ghost use Rattle.reader.specs.Climb.{FamilyJudged, Judged};
-ghost use Rattle.reader.specs.Calls.{report, checked, RegionsGiven, withParents};
+ghost use Rattle.reader.specs.Calls.{report, checked, RegionsGiven, ParentsAnswers, ParentsWrites};
 
 // An accepted family with m, N and K, or the number of the first cause that holds.
 pub enum Checked {
@@ -110,31 +108,34 @@ pub fn regions<'a>(file: &'a [u8]) -> &'a [u8]
     }
 }
 
-// Copies the first n numbers, if they have room.
+// Copies the first n numbers.
 fn copy_front(from: &[u16], n: usize, to: &mut [u16])
     requires { ⌜ n ≤ length (now from) ⌝ }
-    ensures { λ _. ⌜ now (to .exit) ≡ cond (leb n (length (now (to .entry)))) (take n (now (from .entry)) ++ drop n (now (to .entry))) (now (to .entry)) ⌝ }
+    requires { ⌜ n ≤ length (now to) ⌝ }
+    ensures { λ _. ⌜ now (to .exit) ≡ take n (now (from .entry)) ++ drop n (now (to .entry)) ⌝ }
 {
-    if n <= to.len() {
-        let mut i = 0;
-        while i < n {
-            to[i] = from[i];
-            i += 1;
-        }
+    let mut i = 0;
+    while i < n {
+        to[i] = from[i];
+        i += 1;
     }
 }
 
 // The check, and the parent of each region of an accepted family: the number, from 1, of the region just around it,
-// or 0. They are written from the start of the lent slice if it has room for K of them; else it is unchanged.
+// or 0. They are written from the start of the lent slice, which must have room for K of them. A declined call writes nothing.
 pub fn parents(file: &[u8], out: &mut [u16]) -> Checked
-    ensures { λ r. ⌜ report r ≡ checked (now (file .entry)) ⌝ }
-    ensures { λ _. ⌜ now (out .exit) ≡ withParents (now (file .entry)) (now (out .entry)) ⌝ }
+    ensures { λ r. ⌜ ParentsAnswers (now (file .entry)) (now (out .entry)) r ⌝ }
+    ensures { λ _. ⌜ ParentsWrites (now (file .entry)) (now (out .entry)) (now (out .exit)) ⌝ }
 {
     let mut found = [0u16; 8191];
     let cause = judge(file, &mut found);
     if cause != 0 {
         return answer_for(file, cause);
     }
-    copy_front(&found, region_count(file) as usize, out);
+    let n = region_count(file) as usize;
+    if out.len() < n {
+        return Checked::Refused(16);
+    }
+    copy_front(&found, n, out);
     answer_for(file, cause)
 }

@@ -4,7 +4,6 @@ use native.Mathlib.Omega.{arith}
 use mathlib.Core.List.{List, _++_}
 use mathlib.Core.Path.{_≡_, refl, ap, _∙_}
 use lib.ListN.{length, take, drop, set, getD, length-set}
-use borrow.Author.Tests.{le-leb, lt-leb}
 use denote.Ref.{now}
 use Rattle.reader.proofs.Lists.{copy-more}
 use borrow.Author.Needs.{needs}
@@ -42,11 +41,12 @@ loop-again : tie.Need-loop-again Inv-loop μ-loop
 loop-again c =
     let inv = c .before .before .loop .inv in
     let i = c .before .before .loop .i in
-    let from = now (c .before .before .before .before .args .from) in (
+    let a = c .before .before .before in
+    let from = now (a .args .from) in (
       omega arith,
       simp length-set (inv .1),
       ap (λ (l : List ℕ). set l i (getD from i 0)) (inv .2)
-          ∙ copy-more from (now (c .before .before .before .before .args .to)) i (omega (arith, c .before .before .before .before .pre)) (omega (arith, c .before .before .before .if1 .taken)),
+          ∙ copy-more from (now (a .args .to)) i (omega (arith, a .pre .0)) (omega (arith, a .pre .1)),
     )
 
 same-length : tie.Need-same-length Inv-loop μ-loop
@@ -54,12 +54,8 @@ same-length c = search needs
 
 returns : tie.Need-returns Inv-loop μ-loop
 returns c =
-    let a = c .before .before .before .args in
-    let end : c .before .loop .i ≡ a .n = omega arith in
-    rw (le-leb (a .n) (length (now (a .to))) (c .before .before .if1 .taken)) (rw end at (c .before .loop .inv .2))
-
-returns-2 : tie.Need-returns-2 Inv-loop μ-loop
-returns-2 c = rw (lt-leb (c .before .args .n) (length (now (c .before .args .to))) (c .if1 .left))
+    let end : c .before .loop .i ≡ c .before .before .args .n = omega arith in
+    rw end at (c .before .loop .inv .2)
 
 pub copy-front-spec : {M : Type 1} → statement M
 copy-front-spec =
@@ -76,5 +72,4 @@ copy-front-spec =
     loop-less
     loop-again
     same-length
-    returns
-    returns-2)
+    returns)

@@ -1,11 +1,20 @@
--- For an accepted file with room the parents that the check found are copied; the answer is the check's.
+-- A refused file is declined as by the check, an accepted one by 16 where the lent slice has too few places; else the parents that the
+-- check found are copied.
+use Prim.Native.Nat.{_≤_}
 use native.Mathlib.Omega.{arith}
-use mathlib.Core.Path.{sym, _∙_}
+use mathlib.Core.Path.{_≡_, sym, _∙_}
+use lib.ListN.{length}
 use denote.Ref.{now}
-use Rattle.reader.proofs.Accepting.{accepted-header, few-regions, parents-accepted, parents-refused}
+use Rattle.reader.specs.Family.{familyOf, regionCount}
+use Rattle.reader.specs.Causes.{firstCause, fileCauses, Accepted}
+use Rattle.reader.proofs.Accepting.{accepted-header, few-regions, parents-checked, parents-unwritten, parents-short, parents-accepted}
 use borrow.Author.Needs.{needs}
 use Rattle.reader.proofs.parents.Statement.{statement}
 use Rattle.reader.proofs.parents.Tie as tie
+
+-- the file is accepted where the check found no cause
+accepted : (c : tie.After-region-count) → Accepted (now (c .before .before .before .before .before .before .before .args .file))
+accepted c = sym (c .before .before .before .judge .ensures .tested) ∙ c .before .if1 .left
 
 slice-aggregate-judge : tie.Need-slice-aggregate-judge
 slice-aggregate-judge c = search needs
@@ -14,46 +23,52 @@ judge-requires : tie.Need-judge-requires
 judge-requires c κs = search needs
 
 answer-for-requires : tie.Need-answer-for-requires
-answer-for-requires c κs = c .before .before .judge .ensures .tested
+answer-for-requires c κs = search needs
 
 returns : tie.Need-returns
-returns c = (
-  c .answer-for .ensures,
-  sym (parents-refused (now (c .before .before .before .before .before .before .before .args .file)) (λ z. c .before .if1 .taken (c .before .before .before .judge .ensures .tested ∙ z)) _),
-)
-
-slice-aggregate-copy-front : tie.Need-slice-aggregate-copy-front
-slice-aggregate-copy-front c = sym (c .before .before .before .judge .kept .1 .0)
+returns c =
+    let a = c .before .before .before .before .before .before .before .args in
+    let some : firstCause (fileCauses (now (a .file))) ≡ 0 → ⊥ = λ z. c .before .if1 .taken (c .before .before .before .judge .ensures .tested ∙ z) in
+    (c .answer-for .ensures ∙ sym (parents-checked (now (a .file)) (now (a .out)) (λ h. absurd (some h))), parents-unwritten (now (a .file)) (now (a .out)) some)
 
 region-count-requires : tie.Need-region-count-requires
 region-count-requires c κs = search needs
 
-cast-copy-front : tie.Need-cast-copy-front
-cast-copy-front c = search needs
+cast-n : tie.Need-cast-n
+cast-n c = search needs
+
+returns-2 : tie.Need-returns-2
+returns-2 c =
+    let a = c .before .before .before .before .before .before .before .before .args in
+    parents-short (now (a .file)) (now (a .out)) (accepted (c .before)) (omega (arith, c .if2 .taken, c .before .region-count .ensures))
+
+slice-aggregate-copy-front : tie.Need-slice-aggregate-copy-front
+slice-aggregate-copy-front c = search needs
 
 copy-front-requires : tie.Need-copy-front-requires
 copy-front-requires c κs =
-    let s = now (c .before .before .before .before .before .before .before .before .before .args .file) in
-    let accepted = sym (c .before .before .before .before .before .judge .ensures .tested) ∙ c .before .before .before .if1 .left in
-    omega (arith, c .before .region-count .ensures, few-regions s (accepted-header s accepted), c .before .before .before .before .before .judge .kept)
+    let s = now (c .before .before .before .before .before .before .before .before .before .before .args .file) in (
+      omega (arith, c .before .before .before .region-count .ensures, few-regions s (accepted-header s (accepted (c .before .before .before))), c .before .before .before .before .before .before .judge .kept),
+      search needs,
+    )
 
 answer-for-requires-2 : tie.Need-answer-for-requires-2
-answer-for-requires-2 c κs = c .before .before .before .before .before .before .before .before .judge .ensures .tested
+answer-for-requires-2 c κs = search needs
 
 same-length : tie.Need-same-length
 same-length c = search needs
 
-returns-2 : tie.Need-returns-2
-returns-2 c =
-    let s = now (c .before .before .before .before .before .before .before .before .before .before .before .before .before .args .file) in
-    let out = now (c .before .before .before .before .before .before .before .before .before .before .before .before .before .args .out) in
-    let P = c .before .before .before .before .before .before .before .before .before .judge .last .1 .0 in
-    let judged = c .before .before .before .before .before .before .before .before .before .judge .ensures in
-    let none = c .before .before .before .before .before .before .before .if1 .left in
-    let accepted = sym (judged .tested) ∙ none in (
-      c .answer-for2 .ensures,
+returns-3 : tie.Need-returns-3
+returns-3 c =
+    let s = now (c .before .before .before .before .before .before .before .before .before .before .before .before .before .before .args .file) in
+    let out = now (c .before .before .before .before .before .before .before .before .before .before .before .before .before .before .args .out) in
+    let judged = c .before .before .before .before .before .before .before .before .before .before .judge in
+    let ok = accepted (c .before .before .before .before .before .before .before) in
+    let k = c .before .before .before .before .before .before .before .region-count .ensures in
+    let room : regionCount (familyOf s) ≤ length out = omega (arith, k, c .before .before .before .before .before .before .if2 .left) in (
+      c .answer-for2 .ensures ∙ sym (parents-checked s out (λ h. room)),
       c .before .before .before .copy-front .ensures
-          ∙ sym (parents-accepted s accepted P out _ (c .before .before .before .before .before .region-count .ensures) (judged .parents none) (omega (arith, few-regions s (accepted-header s accepted), c .before .before .before .before .before .before .before .before .before .judge .kept))),
+          ∙ parents-accepted s out ok room (judged .last .1 .0) _ k (judged .ensures .parents (c .before .before .before .before .before .before .before .before .if1 .left)) (omega (arith, few-regions s (accepted-header s ok), judged .kept)),
     )
 
 pub parents-spec : {M : Type 1} → statement M
@@ -64,10 +79,11 @@ parents-spec =
     judge-requires
     answer-for-requires
     returns
-    slice-aggregate-copy-front
     region-count-requires
-    cast-copy-front
+    cast-n
+    returns-2
+    slice-aggregate-copy-front
     copy-front-requires
     answer-for-requires-2
     same-length
-    returns-2)
+    returns-3)
