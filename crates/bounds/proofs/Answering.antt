@@ -9,12 +9,12 @@ use lib.Dec.{eqb}
 use borrow.Author.Tests.{eq-eqb, ne-eqb, le-ltb}
 use Rattle.reader.specs.Family.{Family, familyOf}
 use Rattle.reader.specs.Causes.{Cause, firstCause, headerCauses, familyCauses, fileCauses, Accepted}
-use Rattle.reader.specs.Calls.{Report}
+use Rattle.reader.specs.Calls.{Report, short}
 use Rattle.reader.proofs.Bools.{not-passes, not-fails}
 use Rattle.reader.proofs.Lists.{length-tabulate}
 use Rattle.reader.proofs.First.{Numbered, first-holds, first-fails, join-clear, join-holds, answers, declines, writes, leaves-unchanged}
 use Rattle.bounds.specs.Curves.{curveValues, curveMarks, cutOf, entry, markAt, cause15}
-use Rattle.bounds.specs.Calls.{Answers, IsPath, short, pathCauses, inputCauses, curveCauses, cutCauses, CurveValuesWrites, CurveMarksWrites}
+use Rattle.bounds.specs.Calls.{Answers, IsPath, pathCauses, inputCauses, curveCauses, cutCauses, CurveValuesWrites, CurveMarksWrites}
 use Rattle.bounds.proofs.PathLaws.{RepeatedAt, input-path}
 
 module _ (cs : List Cause) (path result : List ℕ) where

@@ -10,13 +10,13 @@ use borrow.Author.Tests.{ltb-false, le-ltb}
 use Rattle.reader.specs.Bytes.{IsBytes}
 use Rattle.reader.specs.Family.{familyOf, regionCount}
 use Rattle.reader.specs.Causes.{firstCause, fileCauses, Accepted}
-use Rattle.reader.specs.Calls.{answer, written}
+use Rattle.reader.specs.Calls.{answer, written, short}
 use Rattle.reader.proofs.First.{head-clear, join-clear, join-holds, clear-left, clear-right, answers, declines, writes, leaves-unchanged}
 use Rattle.reader.proofs.Accepting.{well-formed, file-numbered}
 use Rattle.bounds.specs.Selections.{cause14, boundOf}
 use Rattle.bounds.specs.Rows.{Ready}
 use Rattle.bounds.specs.declared.Bounded.the-variants as bounded
-use Rattle.bounds.specs.Calls.{reportBound, short, causesWithRoom, selectionCauses}
+use Rattle.bounds.specs.Calls.{reportBound, causesWithRoom, selectionCauses}
 use Rattle.bounds.proofs.Selecting.{right-length}
 
 module _ (file selection : List ℕ) (room : ℕ) where

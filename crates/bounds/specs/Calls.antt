@@ -4,10 +4,10 @@ use mathlib.Core.Bool.{Bool, true, false, not, _||_}
 use mathlib.Core.List.{List, [], _∷_, _++_}
 use mathlib.Core.Path.{_≡_}
 use lib.ListN.{length}
-use lib.Dec.{eqb, ltb}
+use lib.Dec.{eqb}
 use Rattle.reader.specs.Family.{familyOf, regionCount}
 use Rattle.reader.specs.Causes.{Cause, firstCause, fileCauses}
-use Rattle.reader.specs.Calls.{Report, answer, written}
+use Rattle.reader.specs.Calls.{Report, answer, written, short}
 use Rattle.bounds.specs.Selections.{boundOf, takenOf, totalsOf, cause14}
 use Rattle.bounds.specs.Curves.{curveValues, curveMarks, cutOf, cause11, cause12, repeated, cause13, cause15}
 use Rattle.bounds.specs.declared.Bounded.{Bounded}
@@ -40,10 +40,6 @@ reportCut (cutFound.Refused n) = record { number = n; values = [] }
 reportCut (cutFound.Repeated p) = record { number = 13; values = p ∷ [] }
 
 -- The causes of each call, in the order in which they are tried.
-
--- an output with fewer places than needed
-unfoldable pub short : ℕ → ℕ → Bool
-short needed room = ltb room needed
 
 -- taken bytes or totals under K; room is the number of places for them
 unfoldable pub causesWithRoom : List ℕ → List ℕ → ℕ → List Cause

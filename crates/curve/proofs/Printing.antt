@@ -10,6 +10,7 @@ use lib.Dec.{eqb}
 use borrow.Author.Tests.{ne-eqb, eqb-true, eqb-false, le-ltb, ltb-false, not-true, not-false}
 use Rattle.reader.specs.Family.{Family, familyOf}
 use Rattle.reader.specs.Causes.{Cause, firstCause, headerCauses, familyCauses, fileCauses, Accepted}
+use Rattle.reader.specs.Calls.{short}
 use Rattle.reader.proofs.Bools.{or-neither}
 use Rattle.reader.proofs.Lists.{length-tabulate}
 use Rattle.reader.proofs.First.{Numbered, first-fails, head-clear, join-clear, join-holds, clear-left, clear-right, none-or-some}
@@ -18,7 +19,7 @@ use Rattle.reader.proofs.Accepting.{accepted-header, file-numbered}
 use Rattle.bounds.specs.Curves.{curveValues, curveMarks, entry, markAt, cause11}
 use Rattle.bounds.specs.declared.Curved.{Curved}
 use Rattle.bounds.specs.declared.Curved.the-variants as curved
-use Rattle.bounds.specs.Calls.{Answers, reportCurve, declinedCurve, short, pathCauses, inputCauses, curveCauses}
+use Rattle.bounds.specs.Calls.{Answers, reportCurve, declinedCurve, pathCauses, inputCauses, curveCauses}
 use Rattle.curve.specs.Text.{heading, rows, rowAt, lineOf, tableOf, refusal}
 use Rattle.curve.specs.Program.{pathOf, odd, programCauses, textOf, output}
 

@@ -17,7 +17,6 @@ use Rattle.reader.specs.Causes.{cause1, cause2, cause3, cause4, cause5, 
 use Rattle.reader.specs.Nesting.{parent, parents}
 use Rattle.reader.specs.WellFormed.{Ordered, WellFormed, ParentsBelow}
 use Rattle.reader.specs.InPlace.{Whole}
-use Rattle.reader.specs.declared.Checked.{Checked}
 use Rattle.reader.specs.declared.Checked.the-variants.{Family as Accepts, Refused}
 use Rattle.reader.specs.Calls.{report, counts, answer, written, checked, regionPart, partStart, RegionsGiven, short, parentsCauses, ParentsAnswers, ParentsWrites}
 use Rattle.reader.proofs.Below.{below-suc}
@@ -270,11 +269,11 @@ module _ (s out : List ℕ) where
 
   -- 8,191 places are enough for any accepted file
   module _ (enough : 8191 ≤ length out) where
-    enough-room : Accepted s → regionCount (familyOf s) ≤ length out
+    pub enough-room : Accepted s → regionCount (familyOf s) ≤ length out
     enough-room h = omega (arith, few-regions s (accepted-header s h))
 
     pub enough-first : firstCause (parentsCauses s out) ≡ firstCause (fileCauses s)
     enough-first = parents-first enough-room
 
-    pub enough-checked : (r : Checked) → ParentsAnswers s out r → report r ≡ checked s
-    enough-checked r h = h ∙ parents-checked enough-room
+    pub enough-checked : answer (parentsCauses s out) (counts (familyOf s)) ≡ checked s
+    enough-checked = parents-checked enough-room

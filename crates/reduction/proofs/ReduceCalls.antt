@@ -8,17 +8,16 @@ use native.Mathlib.Omega.{arith}
 use lib.ListN.{length, take, drop, length-append}
 use lib.Seq.{take-at}
 use lib.Dec.{ltb}
-use borrow.Author.Tests.{le-leb, lt-ltb, le-ltb}
+use borrow.Author.Tests.{lt-ltb, le-ltb}
 use Rattle.reader.specs.Lists.{sameList}
 use Rattle.reader.specs.Family.{familyOf, regionCount}
 use Rattle.reader.specs.Nesting.{parents}
 use Rattle.reader.specs.Causes.{Cause, firstCause, headerCauses, familyCauses, fileCauses, Accepted}
-use Rattle.reader.specs.Calls.{withParents}
+use Rattle.reader.specs.Calls.{short, ParentsWrites}
 use Rattle.reader.proofs.Bools.{test}
 use Rattle.reader.proofs.First.{Numbered, first-holds, first-fails, head-clear, join-clear, join-holds, answers, declines, writes, leaves-unchanged}
 use Rattle.reader.proofs.Judged.{peptides-counted, leaves-counted, regions-counted}
-use Rattle.reader.proofs.Accepting.{accepted-header, few-regions, whole-length, file-numbered}
-use Rattle.bounds.specs.Calls.{short}
+use Rattle.reader.proofs.Accepting.{accepted-header, whole-length, file-numbered, parents-start, enough-first}
 use Rattle.reduction.specs.Reduction.{reducedFile}
 use Rattle.reduction.specs.Steps.{Begins}
 use Rattle.reduction.specs.declared.ReducedFile.{ReducedFile}
@@ -50,13 +49,10 @@ file-most s = omega arith
 
 module _ (s P : List ℕ) where
   -- the parents stand at the start of a list with room for them
-  parents-there : (old : List ℕ) → Accepted s → 8191 ≤ length old → P ≡ withParents s old → Begins (parents (familyOf s)) P
-  unfolding withParents
-  parents-there old a room e =
-      let K = regionCount (familyOf s) in
-      (drop K old, e ∙ rw (a, le-leb K (length old) (omega (arith, few-regions s (accepted-header s a)))))
+  parents-there : (old : List ℕ) → Accepted s → 8191 ≤ length old → ParentsWrites s old P → Begins (parents (familyOf s)) P
+  parents-there old a room e = (drop (regionCount (familyOf s)) old, e ∙ parents-start s old (enough-first s old room ∙ a))
 
-  pub judged-accepted : (old : List ℕ) → Accepted s → 8191 ≤ length old → P ≡ withParents s old → FileJudged s P 0
+  pub judged-accepted : (old : List ℕ) → Accepted s → 8191 ≤ length old → ParentsWrites s old P → FileJudged s P 0
   judged-accepted old a room e =
       record { tested = sym a; small = omega arith; parented = λ z. record { accepted = a; parented = parents-there old a room e } }
 

@@ -7,8 +7,7 @@ use lib.ListN.{length}
 use Rattle.reader.specs.Lists.{sameList}
 use Rattle.reader.specs.Bytes.{numberAt}
 use Rattle.reader.specs.Causes.{Cause, fileCauses}
-use Rattle.reader.specs.Calls.{Report, answer, written}
-use Rattle.bounds.specs.Calls.{short}
+use Rattle.reader.specs.Calls.{Report, answer, written, short}
 use Rattle.reduction.specs.Reduction.{reducedFile}
 use Rattle.reduction.specs.declared.ReducedFile.{ReducedFile}
 use Rattle.reduction.specs.declared.ReducedFile.the-variants as made

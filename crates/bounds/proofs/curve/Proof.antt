@@ -7,7 +7,8 @@ use borrow.Author.Tests.{lt-ltb, le-ltb}
 use denote.Ref.{now}
 use Rattle.reader.proofs.Bools.{or-l, or-r, or-neither}
 use Rattle.bounds.specs.declared.path.Admitted.the-variants.{Yes}
-use Rattle.bounds.specs.Calls.{short, reportCurve, declinedCurve}
+use Rattle.reader.specs.Calls.{short}
+use Rattle.bounds.specs.Calls.{reportCurve, declinedCurve}
 use Rattle.bounds.specs.Walks.{Admission}
 use Rattle.bounds.proofs.PathLaws.{repeat-is}
 use Rattle.bounds.proofs.Answering.{curve-declines, curve-repeats, curve-short, curve-writes}

@@ -1,16 +1,13 @@
 -- The file is judged first, then the numbers of the path, then the repeats; an accepted file has its parents in the lent slice.
-use Prim.Native.Nat.{ℕ, _≤_}
+use Prim.Native.Nat.{ℕ}
 use native.Mathlib.Omega.{arith}
-use mathlib.Core.List.{List}
-use mathlib.Core.Path.{_≡_, sym, ap, subst, _∙_}
-use lib.ListN.{length}
+use mathlib.Core.Path.{_≡_, sym, ap, _∙_}
 use denote.Ref.{now}
 use Rattle.reader.specs.Bytes.{IsBytes}
-use Rattle.reader.specs.Family.{familyOf, regionCount}
+use Rattle.reader.specs.Family.{familyOf}
 use Rattle.reader.specs.Causes.{Accepted}
 use Rattle.reader.specs.Calls.{report}
-use Rattle.reader.specs.WellFormed.{ParentsBelow}
-use Rattle.reader.proofs.Accepting.{well-formed, accepted-header, few-regions, learns-accepted, learns-refused}
+use Rattle.reader.proofs.Accepting.{well-formed, learns-accepted, learns-refused, enough-room, enough-first, enough-checked}
 use Rattle.reader.proofs.ParentLaws.{parents-given}
 use Rattle.bounds.specs.Walks.{numberCause}
 use Rattle.bounds.proofs.PathLaws.{all-different, repeat-holds, number-first, path-13, path-none, path-short, path-numbers, file-most, input-file, input-path, walkable}
@@ -21,7 +18,7 @@ use Rattle.bounds.proofs.path.admit.Tie as tie
 -- the file is accepted, and m is as the answer says
 accepted : (c : tie.After-peptides) → Accepted (now (c .before .before .before .before .before .before .before .before .before .args .file)) × (c .peptides .given .0 .0 ≡ familyOf (now (c .before .before .before .before .before .before .before .before .before .args .file)) .peptides)
 accepted c =
-    let a = learns-accepted (now (c .before .before .before .before .before .before .before .before .before .args .file)) _ _ _ (ap report (sym (c .peptides .given .1)) ∙ c .before .before .before .before .parents .ensures .0) in
+    let a = learns-accepted (now (c .before .before .before .before .before .before .before .before .before .args .file)) _ _ _ (ap report (sym (c .peptides .given .1)) ∙ c .before .before .before .before .parents .ensures .0 ∙ enough-checked _ _ (c .before .before .before .before .before .before .before .before .before .pre)) in
     (a .accepted, a .peptides)
 
 -- what the number of cause 11 or 12 says, at the m of the family
@@ -91,10 +88,9 @@ returns-3 c =
     let differ = all-different path (sym (c .before .first-repeat .ensures) ∙ c .if2 .left) in
     let ok = accepted (c .before .before .before .before .before) .0 in
     let out = now (c .before .before .before .before .before .before .before .before .before .before .before .before .before .before .args .parents) in
-    let room : regionCount (familyOf s) ≤ length out = omega (arith, few-regions s (accepted-header s ok), c .before .before .before .before .before .before .before .before .before .before .before .before .before .before .pre) in
-    let known = subst (λ (P : List ℕ). ParentsBelow (familyOf s) P (regionCount (familyOf s))) (sym (c .before .before .before .before .before .before .before .before .before .parents .ensures .1)) (parents-given s ok out room) in (
+    let known = parents-given s out (enough-first s out (c .before .before .before .before .before .before .before .before .before .before .before .before .before .before .pre) ∙ ok) _ (c .before .before .before .before .before .before .before .before .before .parents .ensures .1) in (
       input-path s path ok ∙ path-none (familyOf s .peptides) path none differ,
-      walkable s path (bytes (c .before .before .before .before .before .before .before .before .before .before .before .before .before)) ok (c .before .before .before .before .before .before .before .before .before .parents .last .1 .0) known (omega (arith, c .before .before .before .before .before .before .before .before .before .parents .kept .1 .0)) none differ,
+      walkable s path (bytes (c .before .before .before .before .before .before .before .before .before .before .before .before .before)) ok (c .before .before .before .before .before .before .before .before .before .parents .last .1 .0) known (omega (arith, enough-room s out (c .before .before .before .before .before .before .before .before .before .before .before .before .before .before .pre) ok, c .before .before .before .before .before .before .before .before .before .parents .kept .1 .0)) none differ,
     )
 
 same-length-4 : tie.Need-same-length-4
@@ -104,7 +100,7 @@ returns-4 : tie.Need-returns-4
 returns-4 c =
     let s = now (c .before .before .before .before .before .before .before .before .before .before .args .file) in
     let path = now (c .before .before .before .before .before .before .before .before .before .before .args .path) in
-    let r = learns-refused s _ (ap report (sym (c .before .number .given .1)) ∙ c .before .before .before .before .before .parents .ensures .0) in (
+    let r = learns-refused s _ (ap report (sym (c .before .number .given .1)) ∙ c .before .before .before .before .before .parents .ensures .0 ∙ enough-checked _ _ (c .before .before .before .before .before .before .before .before .before .before .pre)) in (
       r .0 ∙ sym (input-file s path (λ z. r .1 (r .0 ∙ z))),
       r .1,
       λ z. omega (arith, r .0, file-most s),
