@@ -12,9 +12,9 @@ use Rattle.reader.proofs.Lists.{length-tabulate, getD-tabulate}
 use Rattle.reader.proofs.Below.{none-below}
 use Rattle.bounds.specs.Ranges.{Peptides}
 use Rattle.bounds.specs.Selections.{selected, cause14}
-use Rattle.bounds.proofs.Members.{bit, eqb-bit}
+use Rattle.bounds.proofs.Members.{bit, eqb-bit, bit-few}
 use Rattle.bounds.proofs.Counting.{SameSet}
-use Rattle.bounds.proofs.Selecting.{overOne, right-selection, bit-few}
+use Rattle.bounds.proofs.Selecting.{overOne, right-selection}
 
 module _ (X : List ℕ) where
   pub selected-none : false ≡ selected X 0
