@@ -25,14 +25,14 @@ use Rattle.bounds.specs.declared.Curved.{Curved}
 use Rattle.bounds.specs.declared.Curved.the-variants as curved
 use Rattle.bounds.specs.Calls.{reportBound, declinedCurve, selectionCauses, curveCauses, BoundAnswers, CurveDeclines}
 use Rattle.bounds.specs.AcceptedCalls.{CurveCall, BoundCall}
-use Rattle.bounds.proofs.Greedy.{respects-facts}
-use Rattle.bounds.proofs.Formula.{bound-same}
-use Rattle.bounds.proofs.Taken.{named-those, named-most}
-use Rattle.bounds.proofs.Family.{accepted-laminar}
-use Rattle.bounds.proofs.SelectionCalls.{selection-clear}
-use Rattle.bounds.proofs.Answering.{curve-clear}
-use Rattle.bounds.proofs.Theorems.{bound-is-largest, taken-add-up}
-use Rattle.bounds.proofs.CurveTheorem.{CurveAt, value-at, curve-theorem}
+use Rattle.bounds.proofs.Theory.Greedy.{respects-facts}
+use Rattle.bounds.proofs.Theory.Formula.{bound-same}
+use Rattle.bounds.proofs.Theory.Taken.{named-those, named-most}
+use Rattle.bounds.proofs.Theory.Family.{accepted-laminar}
+use Rattle.bounds.proofs.Calls.SelectionCalls.{selection-clear}
+use Rattle.bounds.proofs.Calls.Answering.{curve-clear}
+use Rattle.bounds.proofs.Theory.Theorems.{bound-is-largest, taken-add-up}
+use Rattle.bounds.proofs.Theory.CurveTheorem.{CurveAt, value-at, curve-theorem}
 
 -- m of an accepted file, and the ranges of its regions
 abbrev pub peptidesIn : AcceptedFile → ℕ

@@ -1,24 +1,7 @@
--- The laws and theorems of `bounds`.
-pub mod Members
-pub mod Counting
-pub mod Nesting
-pub mod Laminar
-pub mod Totals
-pub mod Greedy
-pub mod Formula
-pub mod Paths
-pub mod Taken
-pub mod Family
-pub mod Selecting
-pub mod RowTotals
-pub mod RowWalk
-pub mod TakenBytes
-pub mod SelectionCalls
-pub mod Theorems
-pub mod Holding
-pub mod Marks
+-- The laws and theorems of `bounds`. Demand 2 is one record, in `DemandTwo`.
+pub mod Basics
+pub mod Theory
+pub mod Calls
+pub mod Summing
 pub mod Walking
-pub mod PathLaws
-pub mod Answering
-pub mod CurveTheorem
 pub mod DemandTwo

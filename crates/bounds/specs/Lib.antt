@@ -5,7 +5,5 @@ pub mod Selections
 pub mod Curves
 pub mod Calls
 pub mod AcceptedCalls
-pub mod Rows
-pub mod Takes
 pub mod Paths
-pub mod Walks
+pub mod Private

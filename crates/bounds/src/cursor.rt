@@ -8,7 +8,7 @@ use reader::family::region_of;
 ghost use mathlib.Core.Path.{_≡_};
 ghost use Prim.Native.Nat.{_-_, _<_, _≤_};
 ghost use Rattle.reader.specs.Family.{familyOf, leaves, regionCount, region, peptidesUpTo};
-ghost use Rattle.bounds.specs.Rows.{beginsBy, Ready, OnLeaf, PassedTo};
+ghost use Rattle.bounds.specs.Private.Rows.{beginsBy, Ready, OnLeaf, PassedTo};
 
 // Where a walk along the line stands: the next region, and the last leaf and the last peptide passed, 0 before the first.
 pub(crate) struct Cursor {

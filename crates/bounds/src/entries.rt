@@ -10,7 +10,7 @@ ghost use lib.Dec.{leb};
 ghost use Rattle.reader.specs.Family.{familyOf};
 ghost use Rattle.reader.specs.Lists.{tabulate};
 ghost use Rattle.bounds.specs.Curves.{curveValues, curveMarks, largestUpTo, cutOf};
-ghost use Rattle.bounds.specs.Walks.{Walkable, marksUpTo, MarksOf};
+ghost use Rattle.bounds.specs.Private.Walks.{Walkable, marksUpTo, MarksOf};
 
 // Entry t from the entry before it and mark t.
 fn next_entry(entry: u16, mark: u8) -> u16

@@ -14,7 +14,7 @@ use reader::family::region_of;
 ghost use Prim.Native.Nat.{_≤_};
 ghost use lib.ListN.{length};
 ghost use Rattle.reader.specs.Family.{familyOf, regionCount};
-ghost use Rattle.bounds.specs.Rows.{Ready, RegionReady, RowReady, RegionWalked, RowWalked, LineWalked};
+ghost use Rattle.bounds.specs.Private.Rows.{Ready, RegionReady, RowReady, RegionWalked, RowWalked, LineWalked};
 
 // The value of the region at the cursor: the smaller of its z and its inside total, which is stored.
 fn region_value(file: &[u8], selection: &[u8], totals: &mut [u16], from: Cursor) -> Counted

@@ -8,7 +8,7 @@ ghost use mathlib.Core.Path.{_≡_};
 ghost use Prim.Native.Nat.{_≤_};
 ghost use lib.ListN.{length, drop};
 ghost use Rattle.reader.specs.Family.{familyOf, regionCount};
-ghost use Rattle.bounds.specs.Takes.{TakeDecided, takenAlong};
+ghost use Rattle.bounds.specs.Private.Takes.{TakeDecided, takenAlong};
 
 // A region's byte, and the last leaf of the latest taken region.
 struct Step {

@@ -13,7 +13,7 @@ ghost use lib.ListN.{length, getD, drop};
 ghost use Rattle.reader.specs.Family.{Family, familyOf, leaves, leafOf, regionCount, region};
 ghost use Rattle.reader.specs.WellFormed.{Ordered, Nested};
 ghost use Rattle.bounds.specs.Curves.{curveMarks};
-ghost use Rattle.bounds.specs.Walks.{Walkable, Painted, Innermost, LastHolding, crowded, Uncrowded, OneLess, MarkedNext};
+ghost use Rattle.bounds.specs.Private.Walks.{Walkable, Painted, InnermostAtLeaves, LastHolding, crowded, Uncrowded, OneLess, MarkedNext};
 
 // Writes a region's number at each of its leaves.
 fn paint(innermost: &mut [u16], first: Leaf, last: Leaf, number: u16)
@@ -35,7 +35,7 @@ fn fill_innermost(file: &[u8], innermost: &mut [u16])
     requires { ⌜ leaves (familyOf (now file)) < length (now innermost) ⌝ }
     requires { ⌜ ((leaf : ℕ) → getD (now innermost) leaf 0 ≡ 0) ⌝ }
     ensures { λ _. ⌜ length (now (innermost .exit)) ≡ length (now (innermost .entry)) ⌝ }
-    ensures { λ _. ⌜ Innermost (familyOf (now (file .entry))) (now (innermost .exit)) ⌝ }
+    ensures { λ _. ⌜ InnermostAtLeaves (familyOf (now (file .entry))) (now (innermost .exit)) ⌝ }
 {
     let regions = region_count(file);
     let mut k = 0;
@@ -103,7 +103,7 @@ fn mark_next(
     peptide: Peptide,
 ) -> u8
     requires { ⌜ Nested (familyOf (now file)) (now parents) ⌝ }
-    requires { ⌜ Innermost (familyOf (now file)) (now innermost) ⌝ }
+    requires { ⌜ InnermostAtLeaves (familyOf (now file)) (now innermost) ⌝ }
     requires { ⌜ leafOf (familyOf (now file)) (peptide .0) < length (now innermost) ⌝ }
     requires { ⌜ regionCount (familyOf (now file)) ≤ length (now spare) ⌝ }
     ensures { λ r. ⌜ MarkedNext (familyOf (now (file .entry))) (now (spare .entry)) (peptide .0) (now (spare .exit)) r ⌝ }

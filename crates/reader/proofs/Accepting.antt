@@ -16,7 +16,7 @@ use Rattle.reader.specs.Family.{Family, leaves, regionCount, region, reg
 use Rattle.reader.specs.Causes.{cause1, cause2, cause3, cause4, cause5, cause6, cause7, cause8, cause9, cause10, firstCause, headerCauses, familyCauses, fileCauses, Accepted}
 use Rattle.reader.specs.Nesting.{parent, parents}
 use Rattle.reader.specs.WellFormed.{Ordered, WellFormed, ParentsBelow}
-use Rattle.reader.specs.InPlace.{Whole}
+use Rattle.reader.specs.Private.InPlace.{Whole}
 use Rattle.reader.specs.declared.Checked.the-variants.{Family as Accepts, Refused}
 use Rattle.reader.specs.Calls.{report, counts, answer, written, checked, regionPart, partStart, RegionsGiven, short, parentsCauses, ParentsAnswers, ParentsWrites}
 use Rattle.reader.proofs.Below.{below-suc}

@@ -79,15 +79,15 @@ module _ (p : ℕ → Bool) where
       (λ j. rw (some-at n k j t, first-at n k j t h))
       (below-suc l)
 
-pub count-same : (p q : ℕ → Bool) (n : ℕ) → ((k : ℕ) → k < n → p k ≡ q k) → countBelow n p ≡ countBelow n q
+pub count-below-same : (p q : ℕ → Bool) (n : ℕ) → ((k : ℕ) → k < n → p k ≡ q k) → countBelow n p ≡ countBelow n q
 unfolding countBelow
-count-same p q zero h = refl
-count-same p q (suc n) h = rw (count-same p q n (λ k l. h k (omega arith)), h n (omega arith))
+count-below-same p q zero h = refl
+count-below-same p q (suc n) h = rw (count-below-same p q n (λ k l. h k (omega arith)), h n (omega arith))
 
-pub count-none : (p : ℕ → Bool) (n : ℕ) → ((k : ℕ) → k < n → p k ≡ false) → countBelow n p ≡ 0
+pub count-below-none : (p : ℕ → Bool) (n : ℕ) → ((k : ℕ) → k < n → p k ≡ false) → countBelow n p ≡ 0
 unfolding countBelow
-count-none p zero h = refl
-count-none p (suc n) h = rw (count-none p n (λ k l. h k (omega arith)), h n (omega arith))
+count-below-none p zero h = refl
+count-below-none p (suc n) h = rw (count-below-none p n (λ k l. h k (omega arith)), h n (omega arith))
 
 -- one number more passes p than q: j
 pub count-one-more :
@@ -97,6 +97,6 @@ unfolding countBelow
 count-one-more p q zero j l t f h = absurd (not-suc-le-zero l)
 count-one-more p q (suc n) j l t f h =
     ⊎-elim
-    (λ e. rw (← e, t, f, count-same p q j (λ k i. h k (omega (arith, e)) (λ d. omega arith))) (omega arith))
+    (λ e. rw (← e, t, f, count-below-same p q j (λ k i. h k (omega (arith, e)) (λ d. omega arith))) (omega arith))
     (λ i. rw (count-one-more p q n j i t f (λ k g d. h k (omega arith) d), h n (omega arith) (λ d. omega arith)) (omega arith))
     (below-suc l)

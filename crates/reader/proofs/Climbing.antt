@@ -12,13 +12,13 @@ use lib.Dec.{leb, ltb, eqb}
 use borrow.Author.Tests.{ltb-true, ltb-false, leb-true, leb-false, eqb-true, lt-ltb, le-ltb, le-leb, ne-eqb, not-true, not-false}
 use Rattle.reader.specs.Lists.{tabulate, someBelow}
 use Rattle.reader.specs.Family.{Region, Family, regionCount, region}
-use Rattle.reader.specs.Nesting.{shareLeaf, within, crossing, inside, regionsAround, justInside, parent, parents}
+use Rattle.reader.specs.Nesting.{shareLeaf, regionWithin, crossing, regionInside, regionsAround, regionJustInside, parent, parents}
 use Rattle.reader.specs.Causes.{cause9, cause10}
 use Rattle.reader.specs.WellFormed.{Ordered, NestedBelow, IsParent, ParentsBelow}
-use Rattle.reader.specs.Climb.{Climbed, endsBefore, oneDeeper}
+use Rattle.reader.specs.Private.Climb.{Climbed, endsBefore, oneDeeper}
 use Rattle.reader.proofs.Bools.{test, clash, refuted, and-l, and-r, and-both, and-fails, not-passes}
 use Rattle.reader.proofs.Lists.{length-tabulate, getD-tabulate}
-use Rattle.reader.proofs.Below.{below-next, last-below, none-at, none-below, some-at, first-at, first-none, count-none, count-one-more}
+use Rattle.reader.proofs.Below.{below-next, last-below, none-at, none-below, some-at, first-at, first-none, count-below-none, count-one-more}
 
 -- Leaf ranges that lie within each other, as inequalities.
 
@@ -26,28 +26,28 @@ pub record Within (r q : Region) : Type 0 where
   pub left : q .first ≤ r .first
   pub right : r .last ≤ q .last
 
-pub is-within : (r q : Region) → within r q ≡ true → Within r q
-unfolding within
+pub is-within : (r q : Region) → regionWithin r q ≡ true → Within r q
+unfolding regionWithin
 is-within r q h =
     record {
       left = leb-true (q .first) (r .first) (and-l (leb (q .first) (r .first)) (leb (r .last) (q .last)) h);
       right = leb-true (r .last) (q .last) (and-r (leb (q .first) (r .first)) (leb (r .last) (q .last)) h);
     }
 
-pub from-within : (r q : Region) → Within r q → within r q ≡ true
-unfolding within
+pub from-within : (r q : Region) → Within r q → regionWithin r q ≡ true
+unfolding regionWithin
 from-within r q w = and-both (leb (q .first) (r .first)) (leb (r .last) (q .last)) (le-leb (q .first) (r .first) (w .left)) (le-leb (r .last) (q .last) (w .right))
 
-pub not-within : (r q : Region) → (Within r q → ⊥) → within r q ≡ false
-not-within r q h = refuted (within r q) (λ t. h (is-within r q t))
+pub not-within : (r q : Region) → (Within r q → ⊥) → regionWithin r q ≡ false
+not-within r q h = refuted (regionWithin r q) (λ t. h (is-within r q t))
 
 module _ (F : Family) (o : Ordered F) where
   -- In file order the k-th region is inside the i-th one exactly when it comes later and does not end later.
-  pub inside-later : (k i : ℕ) → k < regionCount F → i < regionCount F → inside (region F k) (region F i) ≡ true → (i < k) × (region F k .last ≤ region F i .last)
-  unfolding inside
+  pub inside-later : (k i : ℕ) → k < regionCount F → i < regionCount F → regionInside (region F k) (region F i) ≡ true → (i < k) × (region F k .last ≤ region F i .last)
+  unfolding regionInside
   inside-later k i lk li h =
-      let w = is-within (region F k) (region F i) (and-l (within (region F k) (region F i)) (not (within (region F i) (region F k))) h) in
-      let n = not-true (within (region F i) (region F k)) (and-r (within (region F k) (region F i)) (not (within (region F i) (region F k))) h) in
+      let w = is-within (region F k) (region F i) (and-l (regionWithin (region F k) (region F i)) (not (regionWithin (region F i) (region F k))) h) in
+      let n = not-true (regionWithin (region F i) (region F k)) (and-r (regionWithin (region F k) (region F i)) (not (regionWithin (region F i) (region F k))) h) in
       let back : (region F k .first ≤ region F i .first → region F i .last ≤ region F k .last → ⊥) =
       λ a b. clash (from-within (region F i) (region F k) (record { left = a; right = b })) n in (
         ⊎-elim
@@ -65,25 +65,25 @@ module _ (F : Family) (o : Ordered F) where
       absurd-last : (k i : ℕ) → k < i → i < regionCount F → Within (region F k) (region F i) → (region F k .first ≤ region F i .first → region F i .last ≤ region F k .last → ⊥) → region F i .last ≤ region F k .last
       absurd-last k i l li w back = absurd (omega (arith, o .falling k i l li (omega (arith, o .rising k i l li))))
 
-  pub later-inside : (k i : ℕ) → i < k → k < regionCount F → region F k .last ≤ region F i .last → inside (region F k) (region F i) ≡ true
-  unfolding inside
+  pub later-inside : (k i : ℕ) → i < k → k < regionCount F → region F k .last ≤ region F i .last → regionInside (region F k) (region F i) ≡ true
+  unfolding regionInside
   later-inside k i l lk h =
-      and-both (within (region F k) (region F i)) (not (within (region F i) (region F k)))
+      and-both (regionWithin (region F k) (region F i)) (not (regionWithin (region F i) (region F k)))
       (from-within (region F k) (region F i) (record { left = o .rising i k l lk; right = h }))
-      (not-passes (within (region F i) (region F k))
+      (not-passes (regionWithin (region F i) (region F k))
       (not-within (region F i) (region F k) (λ w. omega (arith, o .rising i k l lk, o .falling i k l lk (omega (arith, o .rising i k l lk, w))))))
 
   pub later-crossing : (i k : ℕ) → i < k → k < regionCount F → region F k .first ≤ region F i .last → region F i .last < region F k .last → crossing (region F i) (region F k) ≡ true
   unfolding crossing shareLeaf
   later-crossing i k l lk a b =
       let rise = o .rising i k l lk in
-      and-both (shareLeaf (region F i) (region F k) && not (within (region F i) (region F k))) (not (within (region F k) (region F i)))
-      (and-both (shareLeaf (region F i) (region F k)) (not (within (region F i) (region F k)))
+      and-both (shareLeaf (region F i) (region F k) && not (regionWithin (region F i) (region F k))) (not (regionWithin (region F k) (region F i)))
+      (and-both (shareLeaf (region F i) (region F k)) (not (regionWithin (region F i) (region F k)))
       (and-both (leb (region F i .first) (region F k .last)) (leb (region F k .first) (region F i .last))
       (le-leb (region F i .first) (region F k .last) (omega (arith, o .first-last k lk)))
       (le-leb (region F k .first) (region F i .last) a))
-      (not-passes (within (region F i) (region F k)) (not-within (region F i) (region F k) (λ w. omega (arith, w, o .falling i k l lk (omega (arith, w)))))))
-      (not-passes (within (region F k) (region F i)) (not-within (region F k) (region F i) (λ w. omega (arith, w))))
+      (not-passes (regionWithin (region F i) (region F k)) (not-within (region F i) (region F k) (λ w. omega (arith, w, o .falling i k l lk (omega (arith, w)))))))
+      (not-passes (regionWithin (region F k) (region F i)) (not-within (region F k) (region F i) (λ w. omega (arith, w))))
 
   pub later-not-crossing : (i k : ℕ) → i < k → k < regionCount F → (region F i .last < region F k .first) ⊎ (region F k .last ≤ region F i .last) → crossing (region F i) (region F k) ≡ false
   unfolding crossing shareLeaf
@@ -91,11 +91,11 @@ module _ (F : Family) (o : Ordered F) where
       refuted (crossing (region F i) (region F k))
       (λ t.
       let s = shareLeaf (region F i) (region F k) in
-      let a = not (within (region F i) (region F k)) in
-      let b = not (within (region F k) (region F i)) in
+      let a = not (regionWithin (region F i) (region F k)) in
+      let b = not (regionWithin (region F k) (region F i)) in
       ⊎-elim
       (λ d. omega (arith, leb-true (region F k .first) (region F i .last) (and-r (leb (region F i .first) (region F k .last)) (leb (region F k .first) (region F i .last)) (and-l s a (and-l (s && a) b t)))))
-      (λ d. clash (from-within (region F k) (region F i) (record { left = o .rising i k l lk; right = d })) (not-true (within (region F k) (region F i)) (and-r (s && a) b t)))
+      (λ d. clash (from-within (region F k) (region F i) (record { left = o .rising i k l lk; right = d })) (not-true (regionWithin (region F k) (region F i)) (and-r (s && a) b t)))
       h)
 
   pub nested-if-clear : cause9 F ≡ false → NestedBelow F (regionCount F)
@@ -224,7 +224,7 @@ module _ (F : Family) (o : Ordered F) (nested : NestedBelow F (regionCount F)) w
   -- what is around a region is its parent or around its parent
   around-parent :
       (k j : ℕ) → k < regionCount F → IsParent F k (suc j) → (i : ℕ) → i < regionCount F → (i ≡ j → ⊥)
-      → inside (region F k) (region F i) ≡ inside (region F j) (region F i)
+      → regionInside (region F k) (region F i) ≡ regionInside (region F j) (region F i)
   around-parent k j lk p i li apart =
       ⊎-elim
       (λ t.
@@ -233,62 +233,62 @@ module _ (F : Family) (o : Ordered F) (nested : NestedBelow F (regionCount F)) w
       t ∙ sym (later-inside F o j i (omega (arith, inn .0)) (omega (arith, p .earlier)) (subst (λ (n : ℕ). region F n .last ≤ region F i .last) (omega arith) (inn .1))))
       (λ f.
       f
-      ∙ sym (refuted (inside (region F j) (region F i))
+      ∙ sym (refuted (regionInside (region F j) (region F i))
       (λ t.
       let at = inside-later F o j i (omega (arith, p .earlier)) li t in
       clash (later-inside F o k i (omega (arith, at .0, p .earlier)) lk (omega (arith, at .1, p .around j refl))) f)))
-      (test (inside (region F k) (region F i)))
+      (test (regionInside (region F k) (region F i)))
 
   -- what is around a region comes before it, so nothing is around a region without a parent
-  none-around : (k : ℕ) → k < regionCount F → IsParent F k 0 → (i : ℕ) → i < regionCount F → inside (region F k) (region F i) ≡ false
+  none-around : (k : ℕ) → k < regionCount F → IsParent F k 0 → (i : ℕ) → i < regionCount F → regionInside (region F k) (region F i) ≡ false
   none-around k lk p i li =
-      refuted (inside (region F k) (region F i))
+      refuted (regionInside (region F k) (region F i))
       (λ t. let at = inside-later F o k i lk li t in omega (arith, p .innermost i (at .0) (at .1) .0))
 
-  inside-parent : (k j : ℕ) → k < regionCount F → IsParent F k (suc j) → inside (region F k) (region F j) ≡ true
+  inside-parent : (k j : ℕ) → k < regionCount F → IsParent F k (suc j) → regionInside (region F k) (region F j) ≡ true
   inside-parent k j lk p = later-inside F o k j (p .earlier) lk (p .around j refl)
 
   -- the number of regions around a region is one more than that of its parent
   pub depth-outermost : (k : ℕ) → k < regionCount F → IsParent F k 0 → regionsAround F k ≡ 0
-  depth-outermost k lk p = count-none (λ i. inside (region F k) (region F i)) (regionCount F) (none-around k lk p)
+  depth-outermost k lk p = count-below-none (λ i. regionInside (region F k) (region F i)) (regionCount F) (none-around k lk p)
 
   pub depth-inner : (k j : ℕ) → k < regionCount F → IsParent F k (suc j) → regionsAround F k ≡ suc (regionsAround F j)
   depth-inner k j lk p =
-      count-one-more (λ i. inside (region F k) (region F i)) (λ i. inside (region F j) (region F i)) (regionCount F) j
+      count-one-more (λ i. regionInside (region F k) (region F i)) (λ i. regionInside (region F j) (region F i)) (regionCount F) j
       (omega (arith, p .earlier)) (inside-parent k j lk p)
-      (refuted (inside (region F j) (region F j)) (λ t. omega (arith, inside-later F o j j (omega (arith, p .earlier)) (omega (arith, p .earlier)) t .0)))
+      (refuted (regionInside (region F j) (region F j)) (λ t. omega (arith, inside-later F o j j (omega (arith, p .earlier)) (omega (arith, p .earlier)) t .0)))
       (around-parent k j lk p)
 
   -- the parent that the climb finds is the parent as defined
   pub parent-is : (k c : ℕ) → k < regionCount F → IsParent F k c → parent F k ≡ c
-  unfolding parent justInside
+  unfolding parent regionJustInside
   parent-is k zero lk p =
-      first-none (λ q. justInside F (region F k) (region F q)) (regionCount F)
-      (none-below (λ q. justInside F (region F k) (region F q)) (regionCount F)
-      (λ q lq. refuted _ (λ t. clash (and-l (inside (region F k) (region F q)) _ t) (none-around k lk p q lq))))
+      first-none (λ q. regionJustInside F (region F k) (region F q)) (regionCount F)
+      (none-below (λ q. regionJustInside F (region F k) (region F q)) (regionCount F)
+      (λ q lq. refuted _ (λ t. clash (and-l (regionInside (region F k) (region F q)) _ t) (none-around k lk p q lq))))
   parent-is k (suc j) lk p =
-      first-at (λ q. justInside F (region F k) (region F q)) (regionCount F) j (omega (arith, p .earlier))
-      (and-both (inside (region F k) (region F j)) _ (inside-parent k j lk p)
+      first-at (λ q. regionJustInside F (region F k) (region F q)) (regionCount F) j (omega (arith, p .earlier))
+      (and-both (regionInside (region F k) (region F j)) _ (inside-parent k j lk p)
       (not-passes _
-      (none-below (λ t. inside (region F k) (region F t) && inside (region F t) (region F j)) (regionCount F)
+      (none-below (λ t. regionInside (region F k) (region F t) && regionInside (region F t) (region F j)) (regionCount F)
       (λ t lt.
       refuted _
       (λ b.
-      let out = inside-later F o k t lk lt (and-l (inside (region F k) (region F t)) (inside (region F t) (region F j)) b) in
-      let inn = inside-later F o t j lt (omega (arith, p .earlier)) (and-r (inside (region F k) (region F t)) (inside (region F t) (region F j)) b) in
+      let out = inside-later F o k t lk lt (and-l (regionInside (region F k) (region F t)) (regionInside (region F t) (region F j)) b) in
+      let inn = inside-later F o t j lt (omega (arith, p .earlier)) (and-r (regionInside (region F k) (region F t)) (regionInside (region F t) (region F j)) b) in
       omega (arith, p .innermost t (out .0) (out .1) .0, inn .0))))))
       (λ i l.
       refuted _
       (λ b.
       let li : i < regionCount F = omega (arith, p .earlier) in
       let lj : j < regionCount F = omega (arith, p .earlier) in
-      let out = inside-later F o k i lk li (and-l (inside (region F k) (region F i)) _ b) in
+      let out = inside-later F o k i lk li (and-l (regionInside (region F k) (region F i)) _ b) in
       let inn = p .innermost i (out .0) (out .1) in
       clash
-      (and-both (inside (region F k) (region F j)) (inside (region F j) (region F i)) (inside-parent k j lk p)
+      (and-both (regionInside (region F k) (region F j)) (regionInside (region F j) (region F i)) (inside-parent k j lk p)
       (later-inside F o j i l lj (subst (λ (n : ℕ). region F n .last ≤ region F i .last) (omega arith) (inn .1))))
-      (none-at (λ t. inside (region F k) (region F t) && inside (region F t) (region F i)) (regionCount F) j
-      (not-true _ (and-r (inside (region F k) (region F i)) _ b)) lj)))
+      (none-at (λ t. regionInside (region F k) (region F t) && regionInside (region F t) (region F i)) (regionCount F) j
+      (not-true _ (and-r (regionInside (region F k) (region F i)) _ b)) lj)))
 
 -- The depths that are counted along the parents are right for the first k regions, and none is over 63.
 pub record Counted (F : Family) (D : List ℕ) (k : ℕ) : Type 0 where

@@ -6,7 +6,7 @@ use lib.ListN.{replicate, drop}
 use Rattle.reader.specs.Lists.{tabulate, sum, sameList, someBelow, countBelow, firstBelow}
 use Rattle.reader.specs.Bytes.{numberAt, bytesOf}
 use Rattle.reader.specs.Family.{Region, Family, region, mark, lengthAt, regionAt, familyOf, regionFields, fields, fileOf}
-use Rattle.reader.specs.Nesting.{before, shareLeaf, within, crossing, inside, justInside, parent, parents}
+use Rattle.reader.specs.Nesting.{before, shareLeaf, regionWithin, crossing, regionInside, regionJustInside, parent, parents}
 use Rattle.reader.specs.Causes.{cause1, cause2, cause3, cause4, cause5, cause6, cause7, cause8, cause9, cause10, misplaced, firstCause, headerCauses, familyCauses, fileCauses}
 use Rattle.reader.specs.Calls.{answer, checked, regionPart}
 
@@ -47,16 +47,16 @@ comb =
     }
 
 -- the same with one region more than 2N - 1
-pub crowded : Family
-crowded = record { peptides = 3; lengths = 1 ∷ 1 ∷ 1 ∷ []; regions = tabulate 6 (λ k. range 1 (6 - k) 1) }
+pub overfull : Family
+overfull = record { peptides = 3; lengths = 1 ∷ 1 ∷ 1 ∷ []; regions = tabulate 6 (λ k. range 1 (6 - k) 1) }
 
 -- one leaf with all peptides
-pub line : ℕ → Family
-line m = record { peptides = m; lengths = m ∷ []; regions = [] }
+pub oneLeaf : ℕ → Family
+oneLeaf m = record { peptides = m; lengths = m ∷ []; regions = [] }
 
 -- the number that the check gives the file of a family; naming it opens every definition on the way
 pub number : Family → ℕ
-unfolding tabulate sum sameList someBelow countBelow numberAt bytesOf region mark lengthAt regionAt familyOf regionFields fields fileOf before shareLeaf within crossing inside cause1 cause2 cause3 cause4 cause5 cause6 cause7 cause8 cause9 cause10 misplaced firstCause headerCauses familyCauses fileCauses
+unfolding tabulate sum sameList someBelow countBelow numberAt bytesOf region mark lengthAt regionAt familyOf regionFields fields fileOf before shareLeaf regionWithin crossing regionInside cause1 cause2 cause3 cause4 cause5 cause6 cause7 cause8 cause9 cause10 misplaced firstCause headerCauses familyCauses fileCauses
 number F = firstCause (fileCauses (fileOf F))
 
 pub eight-written : fileOf eight ≡ eightFile
@@ -73,20 +73,20 @@ eight-regions = refl
 
 -- regions 2 and 3 lie just inside region 1, region 5 just inside region 4
 pub eight-parents : parents eight ≡ 0 ∷ 1 ∷ 1 ∷ 0 ∷ 4 ∷ []
-unfolding number firstBelow justInside parent parents
+unfolding number firstBelow regionJustInside parent parents
 eight-parents = refl
 
 -- The edges: each family on the line is accepted, and one step beyond it gives its number.
 pub record Edges : Type 0 where
-  pub most-peptides : number (line 4096) ≡ 0
-  pub too-many-peptides : number (line 4097) ≡ 2
+  pub most-peptides : number (oneLeaf 4096) ≡ 0
+  pub too-many-peptides : number (oneLeaf 4097) ≡ 2
   pub most-regions : number comb ≡ 0
-  pub too-many-regions : number crowded ≡ 4
+  pub too-many-regions : number overfull ≡ 4
   pub deepest : number (nest 64) ≡ 0
   pub too-deep : number (nest 65) ≡ 10
 
 pub edges : Edges
-unfolding number nest comb crowded line
+unfolding number nest comb overfull oneLeaf
 edges =
     record {
       most-peptides = refl;

@@ -14,7 +14,7 @@ use Rattle.reader.specs.Causes.{Accepted}
 use Rattle.reader.specs.WellFormed.{WellFormed}
 use Rattle.reader.proofs.Lists.{length-tabulate, getD-tabulate, tabulate-same}
 use Rattle.reader.proofs.Parsed.{peptides-read, leaves-read, regions-read}
-use Rattle.reader.proofs.Judged.{Before, LaidDown, marked, from-marked, from-peptides-counted, from-leaves-counted, from-regions-counted, laid-down, from-laid-down, from-lengths-clear, from-regions-placed, from-regions-rise}
+use Rattle.reader.proofs.Judged.{Before, LaidDown, mark-there, from-marked, from-peptides-counted, from-leaves-counted, from-regions-counted, laid-down, from-laid-down, from-lengths-clear, from-regions-placed, from-regions-rise}
 use Rattle.reader.proofs.Climbing.{clear-if-nested, not-too-deep}
 use Rattle.reader.proofs.Accepting.{HeaderClear, FamilyClear, accepted-header, header-none, family-none, file-family}
 
@@ -341,9 +341,9 @@ module _ (s : List ℕ) (laid : LaidDown s) where
       rw (rows, peptides-read s, leaves-read s, regions-read s, laid .lengths, laid .regions, laid .total, body-numbers)
 
   -- A file that is laid down as it should be and has the mark is the file of its family.
-  pub written-back : IsBytes s → take 4 s ≡ mark → fileOf (familyOf s) ≡ s
+  pub file-written-back : IsBytes s → take 4 s ≡ mark → fileOf (familyOf s) ≡ s
   unfolding fileOf
-  written-back b m =
+  file-written-back b m =
       let n : ℕ = 6 + (numberAt s 6 + 3 * numberAt s 8) in
       rw all-numbers
       (ap₂ _++_ (sym m)
@@ -354,4 +354,4 @@ module _ (s : List ℕ) (laid : LaidDown s) where
 -- An accepted file is the file of its family.
 pub accepted-written-back : (s : List ℕ) → IsBytes s → Accepted s → fileOf (familyOf s) ≡ s
 accepted-written-back s b a =
-    let h = accepted-header s a in written-back s (laid-down s (h .no5)) b (marked s (h .no1) .1)
+    let h = accepted-header s a in file-written-back s (laid-down s (h .no5)) b (mark-there s (h .no1) .1)

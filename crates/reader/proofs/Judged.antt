@@ -14,7 +14,7 @@ use Rattle.reader.specs.Bytes.{numberAt}
 use Rattle.reader.specs.Family.{Region, Family, leaves, regionCount, region, familyOf, mark, regionsOffset, totalLength}
 use Rattle.reader.specs.Nesting.{before}
 use Rattle.reader.specs.Causes.{cause1, cause2, cause3, cause4, cause5, cause6, cause7, cause8, misplaced, firstCause, headerCauses}
-use Rattle.reader.specs.InPlace.{emptyLeaf}
+use Rattle.reader.specs.Private.InPlace.{emptyLeaf}
 use Rattle.reader.proofs.Bools.{test, refuted, and-l, and-r, and-both, or-l, or-r, or-either, or-neither, or-fails-l, or-fails-r, not-fails, not-passes}
 use Rattle.reader.proofs.Below.{none-at, none-below}
 use Rattle.reader.proofs.Lists.{same-equal, same-refl}
@@ -38,9 +38,9 @@ zero-unless a h = ne-eqb a 0 (λ e. omega arith)
 -- Causes 1 to 5.
 
 module _ (s : List ℕ) where
-  pub marked : cause1 s ≡ false → (16 ≤ length s) × (take 4 s ≡ mark)
+  pub mark-there : cause1 s ≡ false → (16 ≤ length s) × (take 4 s ≡ mark)
   unfolding cause1
-  marked h = (
+  mark-there h = (
     ltb-false (length s) 16 (or-fails-l (ltb (length s) 16) (not (sameList (take 4 s) mark)) h),
     same-equal (take 4 s) mark (not-false _ (or-fails-r (ltb (length s) 16) (not (sameList (take 4 s) mark)) h)),
   )

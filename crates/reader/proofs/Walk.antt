@@ -13,7 +13,7 @@ use borrow.Author.Tests.{ltb-true, ltb-false, leb-true, leb-false, le-leb, lt-le
 use Rattle.reader.specs.Lists.{sum}
 use Rattle.reader.specs.Bytes.{numberAt}
 use Rattle.reader.specs.Family.{Family, familyOf, leaves, leafAfter, leafOf, peptidesUpTo}
-use Rattle.reader.specs.InPlace.{eightLengths}
+use Rattle.reader.specs.Private.InPlace.{eightLengths}
 use Rattle.reader.proofs.Bools.{test}
 use Rattle.reader.proofs.Lists.{sum-take-suc}
 use Rattle.reader.proofs.Parsed.{length-number}

@@ -5,6 +5,5 @@ pub mod Family
 pub mod Nesting
 pub mod Causes
 pub mod WellFormed
-pub mod InPlace
 pub mod Calls
-pub mod Climb
+pub mod Private

@@ -16,7 +16,7 @@ ghost use Rattle.reader.specs.Lists.{sum, someBelow};
 ghost use Rattle.reader.specs.Family.{familyOf, leaves, regionCount, region};
 ghost use Rattle.reader.specs.Nesting.{before};
 ghost use Rattle.reader.specs.Causes.{cause1, cause5, cause6, cause7, cause8, misplaced, firstCause, headerCauses};
-ghost use Rattle.reader.specs.InPlace.{Whole, emptyLeaf};
+ghost use Rattle.reader.specs.Private.InPlace.{Whole, emptyLeaf};
 ghost use Rattle.reader.specs.Calls.{held};
 
 fn lacks_mark(file: &[u8]) -> bool

@@ -5,7 +5,7 @@ ghost use mathlib.Core.Path.{_≡_};
 ghost use Prim.Native.Nat.{_+_, _<_, _≤_};
 ghost use lib.ListN.{length};
 ghost use Rattle.reader.specs.Family.{familyOf, leaves, regionCount, leafLength, leafOf, noRegion, region, totalLength};
-ghost use Rattle.reader.specs.InPlace.{eightLengths, FoundAfter};
+ghost use Rattle.reader.specs.Private.InPlace.{eightLengths, FoundAfter};
 ghost use Rattle.reader.specs.Calls.{held};
 
 // The number of a leaf, 1 to N.

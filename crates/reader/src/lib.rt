@@ -20,7 +20,7 @@ ghost use Prim.Native.Nat.{_≤_};
 ghost use lib.ListN.{length, take, drop};
 ghost use Rattle.reader.specs.Family.{familyOf};
 ghost use Rattle.reader.specs.Causes.{firstCause, headerCauses, fileCauses};
-ghost use Rattle.reader.specs.Climb.{FamilyJudged, Judged};
+ghost use Rattle.reader.specs.Private.Climb.{FamilyJudged, Judged};
 ghost use Rattle.reader.specs.Calls.{report, checked, RegionsGiven, ParentsAnswers, ParentsWrites};
 
 // An accepted family with m, N and K, or the number of the first cause that holds.

@@ -9,8 +9,8 @@ ghost use lib.ListN.{length, getD};
 ghost use Rattle.reader.specs.Family.{familyOf, region, regionCount};
 ghost use Rattle.reader.specs.Causes.{cause10};
 ghost use Rattle.reader.specs.WellFormed.{Ordered, Nested};
-ghost use Rattle.reader.specs.InPlace.{Whole};
-ghost use Rattle.reader.specs.Climb.{Climbing, Climbed, endsBefore, Filled, oneDeeper};
+ghost use Rattle.reader.specs.Private.InPlace.{Whole};
+ghost use Rattle.reader.specs.Private.Climb.{Climbing, Climbed, endsBefore, Filled, oneDeeper};
 
 // The number of the innermost region before the k-th one that ends at its first leaf or later; 0 if there is none.
 fn climb(file: &[u8], parents: &[u16], k: u16, first: Leaf) -> u16

@@ -20,8 +20,8 @@ use Rattle.reader.proofs.First.{answers, writes, learns-values}
 use Rattle.reader.proofs.Parsed.{regions-read}
 use Rattle.reader.proofs.Judged.{laid-down}
 use Rattle.reader.proofs.Accepting.{accepted-header}
-use Rattle.bounds.proofs.Members.{bit}
-use Rattle.bounds.proofs.Family.{accepted-laminar}
+use Rattle.bounds.proofs.Basics.Members.{bit}
+use Rattle.bounds.proofs.Theory.Family.{accepted-laminar}
 use Rattle.reduction.specs.Reduction.{reducedFile}
 use Rattle.reduction.specs.Alike.{Alike, SameBounds}
 use Rattle.reduction.specs.declared.ReducedFile.{ReducedFile}
@@ -29,10 +29,10 @@ use Rattle.reduction.specs.declared.ReducedFile.the-variants as made
 use Rattle.reduction.specs.declared.Compared.{Compared}
 use Rattle.reduction.specs.declared.Compared.the-variants as compared
 use Rattle.reduction.specs.Calls.{reportReduced, reduceCauses, reducedCounts, reportCompared, compareCauses, comparison, ReduceAnswers, ReduceWrites, SameAnswers}
-use Rattle.reduction.proofs.Curves.{bounds-alike, alike-bounds}
-use Rattle.reduction.proofs.OneForm.{NoLarger}
-use Rattle.reduction.proofs.OneFile.{reduced-accepted, reduced-bytes, reduced-file-alike, reduced-file-again, reduced-file-fits, alike-same-file, same-file-alike, smallest-file}
-use Rattle.reduction.proofs.ReduceCalls.{output-suffices, both-accepted}
+use Rattle.reduction.proofs.Theory.Curves.{bounds-alike, alike-bounds}
+use Rattle.reduction.proofs.Theory.OneForm.{NoLarger}
+use Rattle.reduction.proofs.Theory.OneFile.{reduced-accepted, reduced-bytes, reduced-file-alike, reduced-file-again, reduced-file-fits, alike-same-file, same-file-alike, smallest-file}
+use Rattle.reduction.proofs.Calls.ReduceCalls.{output-suffices, both-accepted}
 
 -- the answer has the length and the K of the reduced file, which is as many of the first bytes of the output; the rest is unchanged
 pub record AtStart (file out : List ℕ) (r : ReducedFile) (new : List ℕ) : Type 0 where

@@ -14,8 +14,8 @@ use Rattle.bounds.specs.Selections.{selected, takenOf}
 use Rattle.bounds.specs.Curves.{among, entry, curveValues, markAt, curveMarks, largestUpTo, cutOf}
 use Rattle.reduction.specs.Reduction.{rising, falling, grid, firstOf, lastOf, dead, live, livePeptides, hasStretch, smallestZ, merged, stretchAt, stretches, room, isKept, isDeadRun, reducedAt, reduced, endsLeaf, leafLengths, regionOf, writtenFamily, reducedFamily, reducedFile}
 
-unfoldable pub region : ℕ → ℕ → ℕ → Region
-region f l z = record { first = f; last = l; z = z }
+unfoldable pub triple : ℕ → ℕ → ℕ → Region
+triple f l z = record { first = f; last = l; z = z }
 
 -- the eight-peptide family, with z as the bound of its first region
 unfoldable pub eightWith : ℕ → Family
@@ -23,7 +23,7 @@ eightWith z =
     record {
       peptides = 8;
       lengths = 2 ∷ 3 ∷ 1 ∷ 2 ∷ [];
-      regions = region 1 2 z ∷ region 1 1 2 ∷ region 2 2 1 ∷ region 3 4 3 ∷ region 4 4 0 ∷ [];
+      regions = triple 1 2 z ∷ triple 1 1 2 ∷ triple 2 2 1 ∷ triple 3 4 3 ∷ triple 4 4 0 ∷ [];
     }
 
 -- the family of E6
@@ -32,7 +32,7 @@ five =
     record {
       peptides = 8;
       lengths = 2 ∷ 3 ∷ 1 ∷ 1 ∷ 1 ∷ [];
-      regions = region 2 2 1 ∷ region 4 4 0 ∷ region 5 5 0 ∷ [];
+      regions = triple 2 2 1 ∷ triple 4 4 0 ∷ triple 5 5 0 ∷ [];
     }
 
 -- one leaf of m peptides, with the given regions
@@ -61,7 +61,7 @@ fullPath = 7 ∷ 3 ∷ 1 ∷ 4 ∷ 6 ∷ 2 ∷ 5 ∷ 8 ∷ []
 
 -- the reduced file of a family's file; naming it opens every definition on the way
 reducedOf : Family → List ℕ
-unfolding region eightWith five oneLeaf reducedEight reducedThree fullPath tabulate sum numberAt bytesOf peptidesUpTo lengthAt regionAt familyOf regionFields fields mark fileOf rangeOf rangesOf has card count some those sumOver within inside justInside parts outermost outside totalWithin total value bound full isTaken takenBytes selected takenOf among entry curveValues markAt curveMarks largestUpTo cutOf rising falling grid firstOf lastOf dead live livePeptides hasStretch smallestZ merged stretchAt stretches room isKept isDeadRun reducedAt reduced endsLeaf leafLengths regionOf writtenFamily reducedFamily reducedFile
+unfolding triple eightWith five oneLeaf reducedEight reducedThree fullPath tabulate sum numberAt bytesOf peptidesUpTo lengthAt regionAt familyOf regionFields fields mark fileOf rangeOf rangesOf has card count some those sumOver within inside justInside parts outermost outside totalWithin total value bound full isTaken takenBytes selected takenOf among entry curveValues markAt curveMarks largestUpTo cutOf rising falling grid firstOf lastOf dead live livePeptides hasStretch smallestZ merged stretchAt stretches room isKept isDeadRun reducedAt reduced endsLeaf leafLengths regionOf writtenFamily reducedFamily reducedFile
 reducedOf F = reducedFile (fileOf F)
 
 -- E1 to E10, on the definitions.
@@ -84,9 +84,9 @@ pub record Examples : Type 0 where
       × (curveValues (eightWith 3) (3 ∷ 1 ∷ 2 ∷ []) ≡ 0 ∷ 1 ∷ 2 ∷ 3 ∷ [])
   -- no region: the full path gives 0 1 2 3, the reduction has one leaf
   pub E8 : (curveValues (oneLeaf 3 []) (1 ∷ 2 ∷ 3 ∷ []) ≡ 0 ∷ 1 ∷ 2 ∷ 3 ∷ []) × (reducedFile (fileOf (oneLeaf 3 [])) ≡ reducedThree)
-  pub E9 : curveValues (oneLeaf 1 (region 1 1 0 ∷ [])) (1 ∷ []) ≡ 0 ∷ 0 ∷ []
+  pub E9 : curveValues (oneLeaf 1 (triple 1 1 0 ∷ [])) (1 ∷ []) ≡ 0 ∷ 0 ∷ []
   -- reduces as E8
-  pub E10 : reducedFile (fileOf (oneLeaf 3 (region 1 1 5 ∷ []))) ≡ reducedFile (fileOf (oneLeaf 3 []))
+  pub E10 : reducedFile (fileOf (oneLeaf 3 (triple 1 1 5 ∷ []))) ≡ reducedFile (fileOf (oneLeaf 3 []))
 
 pub examples : Examples
 unfolding reducedOf
@@ -105,7 +105,7 @@ examples =
     }
 
 -- No copy of its input and no one fixed file is the reduction: it takes E10 to another file, and E3 and E8 to different ones.
-pub not-a-copy : reducedFile (fileOf (oneLeaf 3 (region 1 1 5 ∷ []))) ≢ fileOf (oneLeaf 3 (region 1 1 5 ∷ []))
+pub not-a-copy : reducedFile (fileOf (oneLeaf 3 (triple 1 1 5 ∷ []))) ≢ fileOf (oneLeaf 3 (triple 1 1 5 ∷ []))
 unfolding reducedOf
 not-a-copy e = let h : _≡_ {A = ℕ} 0 1 = ap (λ s. getD s 8 0) e in omega arith
 

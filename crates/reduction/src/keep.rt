@@ -13,8 +13,8 @@ ghost use Rattle.reader.specs.Family.{familyOf, regionCount};
 ghost use Rattle.reader.specs.WellFormed.{ParentsBelow};
 ghost use Rattle.bounds.specs.Ranges.{Range};
 ghost use Rattle.bounds.specs.Selections.{selected};
-ghost use Rattle.reduction.specs.Steps.{Parented, Stretched, Totalled, Listed};
-ghost use Rattle.reduction.specs.Keeping.{WithStretches, sameEnds, firstAt, Weighed, WeighedBelow, TotalsBelow, keptBound, KeptMarked, beginsRun, RunTo, Gathered, RunsAhead, SomeGathered};
+ghost use Rattle.reduction.specs.Private.Steps.{Parented, Stretched, Totalled, Listed};
+ghost use Rattle.reduction.specs.Private.Keeping.{WithStretches, sameEnds, firstAt, Weighed, WeighedBelow, TotalsBelow, keptBound, KeptMarked, beginsRun, RunTo, Gathered, RunsAhead, SomeGathered};
 
 // Going outward from a region: the smallest z of its stretch, and the smallest z of the other stretches. Where there is
 // no other, 65,535 stands for it: a kept z is less than its room, a 16-bit number, and so less than 65,535.

@@ -16,10 +16,10 @@ ghost use Rattle.reader.specs.Lists.{sameList};
 ghost use Rattle.reader.specs.Family.{familyOf};
 ghost use Rattle.reader.specs.Causes.{Accepted};
 ghost use Rattle.reduction.specs.Reduction.{reducedFile};
-ghost use Rattle.reduction.specs.Steps.{Begins, liveBytes, Parented, Totalled};
+ghost use Rattle.reduction.specs.Private.Steps.{Begins, liveBytes, Parented, Totalled};
 ghost use Rattle.reduction.specs.Calls.{ReduceAnswers, ReduceWrites, SameAnswers};
-ghost use Rattle.reduction.specs.Writing.{Wrote};
-ghost use Rattle.reduction.specs.FileChecks.{FileJudged};
+ghost use Rattle.reduction.specs.Private.Writing.{Wrote};
+ghost use Rattle.reduction.specs.Private.FileChecks.{FileJudged};
 
 // The reduced file's length and number of regions, or the number of the first cause that holds.
 pub enum ReducedFile {

@@ -14,8 +14,8 @@ ghost use lib.ListN.{length};
 ghost use lib.Dec.{eqb, ltb};
 ghost use Rattle.reader.specs.Family.{familyOf, regionCount};
 ghost use Rattle.bounds.specs.Selections.{selected};
-ghost use Rattle.reduction.specs.Steps.{Parented, Stretched};
-ghost use Rattle.reduction.specs.Passes.{Beginning, Began, Open, Ending, WithParents, RoomForRegions, Ends, Ended, LiveMarked, Reached, LiveUpTo, RoomForPeptides, Nexts, Lasts, WithNearest, WithLives, ifWithin, FirstsUpTo, LastsUpTo, RoomForStretches};
+ghost use Rattle.reduction.specs.Private.Steps.{Parented, Stretched};
+ghost use Rattle.reduction.specs.Private.Passes.{Beginning, Began, Open, Ending, WithParents, RoomForRegions, Ends, Ended, LiveMarked, Reached, LiveUpTo, RoomForPeptides, Nexts, Lasts, WithNearest, WithLives, ifWithin, FirstsUpTo, LastsUpTo, RoomForStretches};
 
 // Writes the low ends of the regions that begin after the last leaf and the last peptide passed, 0 before the first.
 // Returns the number of regions that have begun.

@@ -12,8 +12,8 @@ ghost use Rattle.reader.specs.Family.{mark};
 ghost use Rattle.reader.specs.Causes.{Accepted};
 ghost use Rattle.bounds.specs.Ranges.{card};
 ghost use Rattle.reduction.specs.Reduction.{leafLengths};
-ghost use Rattle.reduction.specs.Steps.{Listed};
-ghost use Rattle.reduction.specs.Writing.{withNumbers, headerNumbers, OnLine, endsAt, Marks, markedIn, Counts, regionNumbers, Wrote};
+ghost use Rattle.reduction.specs.Private.Steps.{Listed};
+ghost use Rattle.reduction.specs.Private.Writing.{withNumbers, headerNumbers, OnLine, endsAt, Marks, markedIn, Counts, regionNumbers, Wrote};
 
 // Writes a number as two bytes, low byte first.
 fn put_number(out: &mut [u8], at: usize, n: u16)

@@ -8,10 +8,10 @@ use denote.Ref.{now}
 use Rattle.reader.specs.Family.{familyOf, regionCount}
 use Rattle.reader.specs.Causes.{firstCause}
 use Rattle.reader.proofs.Accepting.{accepted-header, few-regions}
-use Rattle.bounds.specs.Rows.{Ready}
+use Rattle.bounds.specs.Private.Rows.{Ready}
 use Rattle.bounds.specs.Calls.{causesWithRoom}
-use Rattle.bounds.proofs.TakenBytes.{taken-along, taken-length}
-use Rattle.bounds.proofs.SelectionCalls.{none-holds, none-ready, refuses, unchanged, gives-bound, writes-all}
+use Rattle.bounds.proofs.Summing.TakenBytes.{taken-along, taken-length}
+use Rattle.bounds.proofs.Calls.SelectionCalls.{none-holds, none-ready, refuses, unchanged, gives-bound, writes-all}
 use borrow.Author.Needs.{needs}
 use Rattle.bounds.proofs.bound.Statement.{statement}
 use Rattle.bounds.proofs.bound.Tie as tie

@@ -9,9 +9,9 @@ use Rattle.reader.proofs.Bools.{or-l, or-r, or-neither}
 use Rattle.bounds.specs.declared.path.Admitted.the-variants.{Yes}
 use Rattle.reader.specs.Calls.{short}
 use Rattle.bounds.specs.Calls.{reportCurve, declinedCurve}
-use Rattle.bounds.specs.Walks.{Admission}
-use Rattle.bounds.proofs.PathLaws.{repeat-is}
-use Rattle.bounds.proofs.Answering.{curve-declines, curve-repeats, curve-short, curve-writes}
+use Rattle.bounds.specs.Private.Walks.{Admission}
+use Rattle.bounds.proofs.Calls.PathLaws.{repeat-is}
+use Rattle.bounds.proofs.Calls.Answering.{curve-declines, curve-repeats, curve-short, curve-writes}
 use borrow.Author.Needs.{needs}
 use Rattle.bounds.proofs.curve.Statement.{statement}
 use Rattle.bounds.proofs.curve.Tie as tie

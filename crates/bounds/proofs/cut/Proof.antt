@@ -7,9 +7,9 @@ use Rattle.reader.proofs.Bools.{or-l, or-r, or-neither}
 use Rattle.bounds.specs.declared.path.Admitted.the-variants.{Yes}
 use Rattle.bounds.specs.Curves.{cause15}
 use Rattle.bounds.specs.Calls.{reportCut}
-use Rattle.bounds.specs.Walks.{Admission}
-use Rattle.bounds.proofs.PathLaws.{repeat-is}
-use Rattle.bounds.proofs.Answering.{cut-declines, cut-repeats, cut-no-fraction, cut-found}
+use Rattle.bounds.specs.Private.Walks.{Admission}
+use Rattle.bounds.proofs.Calls.PathLaws.{repeat-is}
+use Rattle.bounds.proofs.Calls.Answering.{cut-declines, cut-repeats, cut-no-fraction, cut-answers}
 use borrow.Author.Needs.{needs}
 use Rattle.bounds.proofs.cut.Statement.{statement}
 use Rattle.bounds.proofs.cut.Tie as tie
@@ -51,7 +51,7 @@ unfolding reportCut cause15
 returns-3 c =
     let a = c .before .before .before .before .before .before .before .before .before .before .before .args .a in
     let b = c .before .before .before .before .before .before .before .before .before .before .before .args .b in
-    cut-found _ _ _ _ _ (admitted (c .before .before .before .before) .0) (or-neither (eqb b 0) (ltb b a) (ne-eqb b 0 (c .before .before .before .if1 .left)) (le-ltb b a (c .before .before .if2 .left))) (c .find-cut .ensures)
+    cut-answers _ _ _ _ _ (admitted (c .before .before .before .before) .0) (or-neither (eqb b 0) (ltb b a) (ne-eqb b 0 (c .before .before .before .if1 .left)) (le-ltb b a (c .before .before .if2 .left))) (c .find-cut .ensures)
 
 returns-4 : tie.Need-returns-4
 unfolding reportCut

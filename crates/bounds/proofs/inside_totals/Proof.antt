@@ -6,8 +6,8 @@ use denote.Ref.{now}
 use Rattle.reader.specs.Family.{familyOf}
 use Rattle.reader.specs.Causes.{firstCause}
 use Rattle.bounds.specs.Calls.{causesWithRoom}
-use Rattle.bounds.proofs.TakenBytes.{totals-written, totals-length}
-use Rattle.bounds.proofs.SelectionCalls.{none-holds, none-ready, refuses, unchanged, gives-bound, writes-all}
+use Rattle.bounds.proofs.Summing.TakenBytes.{totals-written, totals-length}
+use Rattle.bounds.proofs.Calls.SelectionCalls.{none-holds, none-ready, refuses, unchanged, gives-bound, writes-all}
 use borrow.Author.Needs.{needs}
 use Rattle.bounds.proofs.inside_totals.Statement.{statement}
 use Rattle.bounds.proofs.inside_totals.Tie as tie

@@ -3,7 +3,7 @@ use mathlib.Core.Path.{sym, ap, _∙_}
 use denote.Ref.{now}
 use Rattle.reader.specs.Calls.{report}
 use Rattle.reader.proofs.Accepting.{learns-accepted, learns-refused, enough-checked}
-use Rattle.reduction.proofs.ReduceCalls.{judged-accepted, judged-refused}
+use Rattle.reduction.proofs.Calls.ReduceCalls.{judged-accepted, judged-refused}
 use borrow.Author.Needs.{needs}
 use Rattle.reduction.proofs.file_cause.Statement.{statement}
 use Rattle.reduction.proofs.file_cause.Tie as tie

@@ -4,7 +4,7 @@ use Prim.Native.Nat.{_-_}
 use lib.ListN.{take}
 use denote.Ref.{now}
 use Rattle.reader.specs.Family.{familyOf}
-use Rattle.reduction.proofs.LiveSelection.{live-room, live-part, totals-written}
+use Rattle.reduction.proofs.Calls.LiveSelection.{live-room, live-part, live-totals-written}
 use borrow.Author.Needs.{needs}
 use Rattle.reduction.proofs.live_totals.Statement.{statement}
 use Rattle.reduction.proofs.live_totals.Tie as tie
@@ -35,7 +35,7 @@ returns c =
     let s = now (c .before .before .before .before .before .before .before .before .before .args .file) in
     let m = c .before .before .before .before .before .peptide-count .result in
     let L = now (c .before .before .before .before .before .before .before .before .before .args .live) in
-    totals-written s (c .before .before .before .before .before .before .before .before .before .pre .0) (now (c .before .before .before .before .before .before .before .before .before .args .totals)) (c .before .before .before .before .before .before .before .before .before .pre .1 .1) (c .before .before .inside-totals .last .1 .1 .0) (take (m - 0) L)
+    live-totals-written s (c .before .before .before .before .before .before .before .before .before .pre .0) (now (c .before .before .before .before .before .before .before .before .before .args .totals)) (c .before .before .before .before .before .before .before .before .before .pre .1 .1) (c .before .before .inside-totals .last .1 .1 .0) (take (m - 0) L)
     (live-part (familyOf s) L (c .before .before .before .before .before .before .before .before .before .pre .1 .0) m (c .before .before .before .before .before .peptide-count .ensures)) (c .before .before .inside-totals .ensures .1)
 
 pub live-totals-spec : {M : Type 1} → statement M

@@ -1,7 +1,7 @@
 -- The causes of the file, then the room, then the reduced file.
 use mathlib.Core.Path.{sym, _∙_}
 use denote.Ref.{now}
-use Rattle.reduction.proofs.ReduceCalls.{reduce-refused, reduce-short, reduce-written}
+use Rattle.reduction.proofs.Calls.ReduceCalls.{reduce-refused, reduce-short, reduce-written}
 use borrow.Author.Needs.{needs}
 use Rattle.reduction.proofs.reduce.Statement.{statement}
 use Rattle.reduction.proofs.reduce.Tie as tie

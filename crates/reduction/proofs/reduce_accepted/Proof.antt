@@ -2,7 +2,7 @@
 use native.Mathlib.Omega.{arith}
 use denote.Ref.{now}
 use Rattle.reader.proofs.Accepting.{accepted-header, few-regions}
-use Rattle.reduction.proofs.ReduceCalls.{few-peptides}
+use Rattle.reduction.proofs.Calls.ReduceCalls.{few-peptides}
 use borrow.Author.Needs.{needs}
 use Rattle.reduction.proofs.reduce_accepted.Statement.{statement}
 use Rattle.reduction.proofs.reduce_accepted.Tie as tie

@@ -1,7 +1,7 @@
 -- The causes of the first file, then those of the second, then the comparison.
 use mathlib.Core.Path.{sym, _∙_}
 use denote.Ref.{now}
-use Rattle.reduction.proofs.ReduceCalls.{first-refused, second-refused, compare-same, compare-different}
+use Rattle.reduction.proofs.Calls.ReduceCalls.{first-refused, second-refused, compare-same, compare-different}
 use borrow.Author.Needs.{needs}
 use Rattle.reduction.proofs.same.Statement.{statement}
 use Rattle.reduction.proofs.same.Tie as tie

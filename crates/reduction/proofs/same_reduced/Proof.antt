@@ -3,7 +3,7 @@ use native.Mathlib.Omega.{arith}
 use mathlib.Core.Path.{ap₂, _∙_}
 use denote.Ref.{now}
 use Rattle.reader.specs.Lists.{sameList}
-use Rattle.reduction.proofs.ReduceCalls.{accepted-most, wrote-room, wrote-part}
+use Rattle.reduction.proofs.Calls.ReduceCalls.{accepted-most, wrote-room, wrote-part}
 use borrow.Author.Needs.{needs}
 use Rattle.reduction.proofs.same_reduced.Statement.{statement}
 use Rattle.reduction.proofs.same_reduced.Tie as tie

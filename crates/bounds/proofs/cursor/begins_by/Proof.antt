@@ -7,7 +7,7 @@ use borrow.Author.Tests.{lt-ltb, le-ltb}
 use denote.Ref.{now}
 use Rattle.reader.specs.Family.{familyOf, regionCount, region}
 use Rattle.reader.proofs.Parsed.{held-first}
-use Rattle.bounds.specs.Rows.{beginsBy}
+use Rattle.bounds.specs.Private.Rows.{beginsBy}
 use borrow.Author.Needs.{needs}
 use Rattle.bounds.proofs.cursor.begins_by.Statement.{statement}
 use Rattle.bounds.proofs.cursor.begins_by.Tie as tie

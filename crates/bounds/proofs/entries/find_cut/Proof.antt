@@ -8,8 +8,8 @@ use lib.Dec.{leb}
 use denote.Ref.{now}
 use Rattle.reader.specs.Family.{familyOf}
 use Rattle.bounds.specs.Curves.{entry, markAt, cutOf}
-use Rattle.bounds.specs.Walks.{marksUpTo}
-use Rattle.bounds.proofs.Walking.{entries-marked, marks-of, marks-written, largest-same}
+use Rattle.bounds.specs.Private.Walks.{marksUpTo}
+use Rattle.bounds.proofs.Walking.Steps.{entries-marked, marks-of, marks-written, largest-same}
 use borrow.Author.Needs.{needs}
 use Rattle.bounds.proofs.entries.find_cut.Statement.{statement}
 use Rattle.bounds.proofs.entries.find_cut.Tie as tie

@@ -3,8 +3,8 @@ use Prim.Native.Nat.{_+_, _-_, _≤_}
 use native.Mathlib.Omega.{arith}
 use mathlib.Core.Path.{_≡_, sym, _∙_}
 use denote.Ref.{now}
-use Rattle.bounds.specs.Walks.{marksUpTo}
-use Rattle.bounds.proofs.Walking.{marks-none, marks-more, passingUpTo, passing-none, passing-more}
+use Rattle.bounds.specs.Private.Walks.{marksUpTo}
+use Rattle.bounds.proofs.Walking.Steps.{marks-none, marks-more, passingUpTo, passing-none, passing-more}
 use borrow.Author.Needs.{needs}
 use Rattle.bounds.proofs.entries.last_passing.Statement.{statement}
 use Rattle.bounds.proofs.entries.last_passing.Tie as tie

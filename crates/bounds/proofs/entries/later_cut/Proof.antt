@@ -2,7 +2,7 @@
 use Prim.Native.Nat.{_*_}
 use native.Mathlib.Omega.{arith}
 use borrow.Author.Tests.{le-leb, lt-leb}
-use Rattle.bounds.proofs.Walking.{product-fits}
+use Rattle.bounds.proofs.Walking.Steps.{product-fits}
 use borrow.Author.Needs.{needs}
 use Rattle.bounds.proofs.entries.later_cut.Statement.{statement}
 use Rattle.bounds.proofs.entries.later_cut.Tie as tie

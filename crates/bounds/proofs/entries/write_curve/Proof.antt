@@ -8,8 +8,8 @@ use denote.Ref.{now}
 use Rattle.reader.specs.Family.{familyOf}
 use Rattle.reader.proofs.Lists.{tabulate-same}
 use Rattle.bounds.specs.Curves.{entry, markAt, curveValues}
-use Rattle.bounds.specs.Walks.{marksUpTo}
-use Rattle.bounds.proofs.Walking.{entries-marked, marks-of, marks-written}
+use Rattle.bounds.specs.Private.Walks.{marksUpTo}
+use Rattle.bounds.proofs.Walking.Steps.{entries-marked, marks-of, marks-written}
 use borrow.Author.Needs.{needs}
 use Rattle.bounds.proofs.entries.write_curve.Statement.{statement}
 use Rattle.bounds.proofs.entries.write_curve.Tie as tie

@@ -8,7 +8,7 @@ use mathlib.Core.Path.{_≡_, refl, sym, _∙_}
 use lib.ListN.{length, getD, length-set, replicate, getD-replicate}
 use denote.Ref.{now}
 use Rattle.bounds.specs.Curves.{repeated}
-use Rattle.bounds.proofs.PathLaws.{Seen, seen-none, seen-more, repeated-seen, bit-some, bit-none, repeat-at, repeat-none}
+use Rattle.bounds.proofs.Calls.PathLaws.{Seen, seen-none, seen-more, repeated-seen, bit-some, bit-none, repeat-at, repeat-none}
 use borrow.Author.Needs.{needs}
 use Rattle.bounds.proofs.path.first_repeat.Statement.{statement}
 use Rattle.bounds.proofs.path.first_repeat.Tie as tie

@@ -4,7 +4,7 @@ use lib.ListN.{length}
 use borrow.Author.Tests.{lt-ltb, le-ltb}
 use denote.Ref.{now}
 use Rattle.bounds.specs.Curves.{cause11}
-use Rattle.bounds.specs.Walks.{numberCause}
+use Rattle.bounds.specs.Private.Walks.{numberCause}
 use borrow.Author.Needs.{needs}
 use Rattle.bounds.proofs.path.number_cause.Statement.{statement}
 use Rattle.bounds.proofs.path.number_cause.Tie as tie

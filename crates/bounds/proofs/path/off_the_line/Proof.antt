@@ -11,7 +11,7 @@ use Rattle.reader.specs.Lists.{someBelow}
 use Rattle.reader.proofs.Bools.{or-l, or-r, or-neither}
 use Rattle.reader.proofs.Below.{none-below-zero, none-more, some-at}
 use Rattle.bounds.specs.Curves.{cause12}
-use Rattle.bounds.proofs.PathLaws.{offLine}
+use Rattle.bounds.proofs.Calls.PathLaws.{offLine}
 use borrow.Author.Needs.{needs}
 use Rattle.bounds.proofs.path.off_the_line.Statement.{statement}
 use Rattle.bounds.proofs.path.off_the_line.Tie as tie

@@ -9,8 +9,8 @@ use Rattle.reader.specs.Family.{familyOf, regionCount}
 use Rattle.reader.proofs.Parsed.{held-last, held-z}
 use Rattle.reader.proofs.bytes.smaller.Reads as smaller-reads
 use Rattle.reader.proofs.family.region_of.Reads as region-of-reads
-use Rattle.bounds.specs.Rows.{Stored}
-use Rattle.bounds.proofs.RowWalk.{Along, begun, leaf-before, pass-fits, row-fits, stored-none, stored-more, row-starts, row-meets, region-meets, row-steps, row-finishes, region-row, region-finishes}
+use Rattle.bounds.specs.Private.Rows.{Stored}
+use Rattle.bounds.proofs.Summing.RowWalk.{Along, begun, leaf-before, pass-fits, row-fits, stored-none, stored-more, row-starts, row-meets, region-meets, row-steps, row-finishes, region-row, region-finishes}
 use borrow.Author.Needs.{needs}
 use borrow.Fn.Kinds.{In}
 use borrow.Fn.PlainCycle.{Measures, is, falls, and}

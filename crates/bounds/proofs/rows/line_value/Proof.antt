@@ -1,6 +1,6 @@
 -- The whole line is the first row.
 use mathlib.Core.Path.{refl}
-use Rattle.bounds.proofs.RowWalk.{line-row, line-finishes}
+use Rattle.bounds.proofs.Summing.RowWalk.{line-row, line-finishes}
 use borrow.Author.Needs.{needs}
 use Rattle.bounds.proofs.rows.line_value.Statement.{statement}
 use Rattle.bounds.proofs.rows.line_value.Tie as tie

@@ -8,7 +8,7 @@ use borrow.Author.Tests.{le-ltb}
 use denote.Ref.{now}
 use Rattle.reader.specs.Lists.{someBelow}
 use Rattle.reader.proofs.Below.{none-below-zero, none-more}
-use Rattle.bounds.proofs.Selecting.{overOne, wrong-length, wrong-byte, right-selection}
+use Rattle.bounds.proofs.Calls.Selecting.{overOne, wrong-length, wrong-byte, right-selection}
 use borrow.Author.Needs.{needs}
 use Rattle.bounds.proofs.selection.bad_selection.Statement.{statement}
 use Rattle.bounds.proofs.selection.bad_selection.Tie as tie

@@ -6,8 +6,8 @@ use lib.ListN.{length}
 use denote.Ref.{now}
 use Rattle.bounds.specs.Ranges.{card}
 use Rattle.bounds.specs.Selections.{selected}
-use Rattle.bounds.proofs.Counting.{card-next}
-use Rattle.bounds.proofs.Members.{bit-few}
+use Rattle.bounds.proofs.Basics.Counting.{card-next}
+use Rattle.bounds.proofs.Basics.Members.{bit-few}
 use borrow.Author.Needs.{needs}
 use Rattle.bounds.proofs.selection.selected_between.Statement.{statement}
 use Rattle.bounds.proofs.selection.selected_between.Tie as tie

@@ -6,7 +6,7 @@ use denote.Ref.{now}
 use Rattle.reader.specs.Family.{familyOf, regionCount}
 use Rattle.reader.specs.Calls.{report}
 use Rattle.reader.proofs.Accepting.{learns-accepted, learns-refused}
-use Rattle.bounds.proofs.SelectionCalls.{cause-of-file, cause-14, cause-16}
+use Rattle.bounds.proofs.Calls.SelectionCalls.{cause-of-file, cause-14, cause-16}
 use borrow.Author.Needs.{needs}
 use Rattle.bounds.proofs.selection.selection_cause.Statement.{statement}
 use Rattle.bounds.proofs.selection.selection_cause.Tie as tie

@@ -3,7 +3,7 @@ use native.Mathlib.Omega.{arith}
 use denote.Ref.{now}
 use Rattle.reader.specs.Family.{familyOf}
 use Rattle.reader.proofs.Parsed.{held-first, held-last, held-z}
-use Rattle.bounds.proofs.TakenBytes.{not-begun, not-over, both-take}
+use Rattle.bounds.proofs.Summing.TakenBytes.{not-begun, not-over, both-take}
 use borrow.Author.Needs.{needs}
 use Rattle.bounds.proofs.taking.take.Statement.{statement}
 use Rattle.bounds.proofs.taking.take.Tie as tie

@@ -6,8 +6,8 @@ use mathlib.Core.Path.{_≡_, refl, ap, _∙_}
 use lib.ListN.{length, set, take, drop, length-set}
 use denote.Ref.{now}
 use Rattle.reader.specs.Family.{familyOf, regionCount}
-use Rattle.bounds.proofs.TakenBytes.{until-next, taken-next, taken-all}
-use Rattle.bounds.specs.Takes.{takenUntil, takenAlong}
+use Rattle.bounds.proofs.Summing.TakenBytes.{until-next, taken-next, taken-all}
+use Rattle.bounds.specs.Private.Takes.{takenUntil, takenAlong}
 use borrow.Author.Needs.{needs}
 use Rattle.bounds.proofs.taking.write_taken.Statement.{statement}
 use Rattle.bounds.proofs.taking.write_taken.Tie as tie

@@ -5,8 +5,8 @@ use mathlib.Core.Path.{_≡_, sym, subst, _∙_}
 use lib.ListN.{getD}
 use denote.Ref.{now}
 use Rattle.reader.specs.Family.{familyOf, leafOf}
-use Rattle.bounds.specs.Walks.{LastHolding}
-use Rattle.bounds.proofs.Holding.{step-stays, step-takes}
+use Rattle.bounds.specs.Private.Walks.{LastHolding}
+use Rattle.bounds.proofs.Walking.Holding.{step-stays, step-takes}
 use borrow.Author.Needs.{needs}
 use Rattle.bounds.proofs.walk.mark_next.Statement.{statement}
 use Rattle.bounds.proofs.walk.mark_next.Tie as tie

@@ -10,10 +10,10 @@ use Rattle.reader.specs.Family.{familyOf}
 use Rattle.reader.proofs.Lists.{zeros}
 use Rattle.bounds.specs.Ranges.{rangesOf}
 use Rattle.bounds.specs.Curves.{markAt, curveMarks}
-use Rattle.bounds.specs.Walks.{Innermost}
-use Rattle.bounds.proofs.Counting.{none}
-use Rattle.bounds.proofs.Greedy.{greedy}
-use Rattle.bounds.proofs.Walking.{SpareFor, spare-start, leaf-few, next, write-none, write-more}
+use Rattle.bounds.specs.Private.Walks.{InnermostAtLeaves}
+use Rattle.bounds.proofs.Basics.Counting.{none}
+use Rattle.bounds.proofs.Theory.Greedy.{greedy}
+use Rattle.bounds.proofs.Walking.Steps.{SpareFor, spare-start, leaf-few, next, write-none, write-more}
 use borrow.Author.Needs.{needs}
 use Rattle.bounds.proofs.walk.mark_path.Statement.{statement}
 use Rattle.bounds.proofs.walk.mark_path.Tie as tie
@@ -24,7 +24,7 @@ Inv-loop file parents path marks₀ spare₀ innermost t₀ marks spare t =
     × (length marks ≡ length marks₀)
     × (length spare ≡ 8191)
     × (length innermost ≡ 4097)
-    × Innermost (familyOf file) innermost
+    × InnermostAtLeaves (familyOf file) innermost
     × (marks ≡ tabulate t (λ i. markAt (familyOf file) path (i + 1)) ++ drop t marks₀)
     × SpareFor (familyOf file) (greedy (familyOf file .peptides) (rangesOf (familyOf file)) none (take t path)) spare
 

@@ -7,8 +7,8 @@ use lib.Seq.{getD-set-other}
 use denote.Ref.{now}
 use Rattle.reader.specs.Family.{Family}
 use Rattle.reader.specs.WellFormed.{Nested}
-use Rattle.bounds.specs.Walks.{LastHolding}
-use Rattle.bounds.proofs.Holding.{Chain, chain-starts, chain-here, chain-next, takes-one, LessFrom, less-starts, less-steps, less-ends}
+use Rattle.bounds.specs.Private.Walks.{LastHolding}
+use Rattle.bounds.proofs.Walking.Holding.{Chain, chain-starts, chain-here, chain-next, takes-one, LessFrom, less-starts, less-steps, less-ends}
 use borrow.Author.Needs.{needs}
 use Rattle.bounds.proofs.walk.take_mark.Statement.{statement}
 use Rattle.bounds.proofs.walk.take_mark.Tie as tie

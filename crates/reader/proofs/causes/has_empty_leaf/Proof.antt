@@ -6,7 +6,7 @@ use mathlib.Core.Path.{_≡_, sym, _∙_}
 use denote.Ref.{now}
 use Rattle.reader.specs.Lists.{someBelow}
 use Rattle.reader.specs.Family.{familyOf, leaves}
-use Rattle.reader.specs.InPlace.{emptyLeaf}
+use Rattle.reader.specs.Private.InPlace.{emptyLeaf}
 use Rattle.reader.proofs.Bools.{or-r, or-neither}
 use Rattle.reader.proofs.Below.{none-below-zero, some-below-more}
 use borrow.Author.Needs.{needs}

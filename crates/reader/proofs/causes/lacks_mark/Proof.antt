@@ -8,13 +8,13 @@ use denote.Ref.{now}
 use Rattle.reader.specs.Family.{mark}
 use Rattle.reader.specs.Causes.{cause1}
 use Rattle.reader.proofs.Bools.{passes}
-use Rattle.reader.proofs.Judged.{marked}
+use Rattle.reader.proofs.Judged.{mark-there}
 use borrow.Author.Needs.{needs}
 use Rattle.reader.proofs.causes.lacks_mark.Statement.{statement}
 use Rattle.reader.proofs.causes.lacks_mark.Tie as tie
 
 returns : tie.Need-returns
-returns c = sym (passes _ (λ f. omega (arith, marked (now (c .before .before .args .file)) f .0)))
+returns c = sym (passes _ (λ f. omega (arith, mark-there (now (c .before .before .args .file)) f .0)))
 
 sub-same-bytes : tie.Need-sub-same-bytes
 sub-same-bytes c = search needs

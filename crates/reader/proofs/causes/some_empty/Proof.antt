@@ -7,7 +7,7 @@ use lib.Dec.{eqb}
 use denote.Ref.{now}
 use Rattle.reader.specs.Lists.{someBelow}
 use Rattle.reader.specs.Family.{familyOf}
-use Rattle.reader.specs.InPlace.{emptyLeaf}
+use Rattle.reader.specs.Private.InPlace.{emptyLeaf}
 use Rattle.reader.proofs.Below.{some-more}
 use Rattle.reader.proofs.Parsed.{leaves-read, length-number}
 use borrow.Author.Needs.{needs}

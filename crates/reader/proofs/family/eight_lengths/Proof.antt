@@ -1,5 +1,5 @@
 -- The eight numbers are added in pairs; none of the sums is over 524,280.
-use Rattle.reader.specs.InPlace.{eightLengths}
+use Rattle.reader.specs.Private.InPlace.{eightLengths}
 use borrow.Author.Needs.{needs}
 use Rattle.reader.proofs.family.eight_lengths.Statement.{statement}
 use Rattle.reader.proofs.family.eight_lengths.Tie as tie

@@ -6,7 +6,7 @@ use lib.Dec.{ltb}
 use borrow.Author.Tests.{ne-eqb}
 use denote.Ref.{now}
 use Rattle.reader.specs.Family.{familyOf, region}
-use Rattle.reader.specs.Climb.{endsBefore}
+use Rattle.reader.specs.Private.Climb.{endsBefore}
 use Rattle.reader.proofs.Parsed.{held-last}
 use borrow.Author.Needs.{needs}
 use Rattle.reader.proofs.nesting.ends_before.Statement.{statement}

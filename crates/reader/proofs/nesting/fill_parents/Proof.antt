@@ -6,7 +6,7 @@ use lib.ListN.{length, length-set}
 use denote.Ref.{now}
 use Rattle.reader.specs.Family.{familyOf, region, regionCount}
 use Rattle.reader.specs.WellFormed.{NestedBelow, ParentsBelow}
-use Rattle.reader.specs.Climb.{endsBefore}
+use Rattle.reader.specs.Private.Climb.{endsBefore}
 use Rattle.reader.proofs.Bools.{clash}
 use Rattle.reader.proofs.Parsed.{held-first, held-last}
 use Rattle.reader.proofs.Climbing.{climbed-crosses, climbed-parent, climbed-nested, nested-more, parents-more, clear-if-nested}

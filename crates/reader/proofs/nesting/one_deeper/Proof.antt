@@ -3,7 +3,7 @@ use Prim.Native.Nat.{_-_}
 use native.Mathlib.Omega.{arith}
 use native.Mathlib.Numerals.{add-one}
 use borrow.Author.Tests.{ne-eqb}
-use Rattle.reader.specs.Climb.{oneDeeper}
+use Rattle.reader.specs.Private.Climb.{oneDeeper}
 use borrow.Author.Needs.{needs}
 use Rattle.reader.proofs.nesting.one_deeper.Statement.{statement}
 use Rattle.reader.proofs.nesting.one_deeper.Tie as tie

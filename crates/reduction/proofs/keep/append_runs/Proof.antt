@@ -9,9 +9,9 @@ use Rattle.reader.specs.Family.{familyOf, regionCount}
 use Rattle.bounds.specs.Ranges.{Range, rangesOf}
 use Rattle.bounds.specs.Selections.{selected}
 use Rattle.reduction.specs.Reduction.{live}
-use Rattle.reduction.specs.Keeping.{RunTo, Gathered}
-use Rattle.reduction.proofs.Runs.{DeadRun}
-use Rattle.reduction.proofs.Gathering.{run-here, no-run-here, no-run, run-room, run-more}
+use Rattle.reduction.specs.Private.Keeping.{RunTo, Gathered}
+use Rattle.reduction.proofs.Theory.Runs.{DeadRun}
+use Rattle.reduction.proofs.Keeping.Gathering.{run-here, no-run-here, no-run, run-room, run-more}
 use borrow.Author.Needs.{needs}
 use Rattle.reduction.proofs.keep.append_runs.Statement.{statement}
 use Rattle.reduction.proofs.keep.append_runs.Tie as tie

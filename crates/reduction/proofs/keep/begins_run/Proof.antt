@@ -2,7 +2,7 @@
 use denote.Ref.{now}
 use mathlib.Core.Path.{sym, _∙_}
 use Rattle.bounds.specs.Selections.{selected}
-use Rattle.reduction.proofs.HandedOn.{begins-not, begins-first, begins-after}
+use Rattle.reduction.proofs.Keeping.HandedOn.{begins-not, begins-first, begins-after}
 use borrow.Author.Needs.{needs}
 use Rattle.reduction.proofs.keep.begins_run.Statement.{statement}
 use Rattle.reduction.proofs.keep.begins_run.Tie as tie

@@ -5,8 +5,8 @@ use mathlib.Core.Path.{_≡_, refl, sym, _∙_}
 use native.Mathlib.Omega.{arith}
 use lib.ListN.{length, getD, length-set}
 use Rattle.reader.specs.Family.{familyOf, regionCount}
-use Rattle.reduction.specs.Keeping.{firstAt, lastAt, ofFirst, Passed, Gathered}
-use Rattle.reduction.proofs.Gathering.{gathers-start, passed-start, passed-skip, skip-region, passed-place, place-room, place-more, listed-all}
+use Rattle.reduction.specs.Private.Keeping.{firstAt, lastAt, ofFirst, Passed, Gathered}
+use Rattle.reduction.proofs.Keeping.Gathering.{gathers-start, passed-start, passed-skip, skip-region, passed-place, place-room, place-more, listed-all}
 use borrow.Author.Needs.{needs}
 use Rattle.reduction.proofs.keep.gather.Statement.{statement}
 use Rattle.reduction.proofs.keep.gather.Tie as tie

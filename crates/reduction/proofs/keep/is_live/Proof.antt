@@ -2,7 +2,7 @@
 use denote.Ref.{now}
 use mathlib.Core.Path.{sym}
 use native.Mathlib.Omega.{arith}
-use Rattle.reduction.proofs.Selected.{selected-none, selected-at, selected-past}
+use Rattle.reduction.proofs.Basics.Selected.{selected-none, selected-at, selected-past}
 use borrow.Author.Needs.{needs}
 use Rattle.reduction.proofs.keep.is_live.Statement.{statement}
 use Rattle.reduction.proofs.keep.is_live.Tie as tie

@@ -2,7 +2,7 @@
 use denote.Ref.{now}
 use mathlib.Core.Path.{sym, _∙_}
 use native.Mathlib.Omega.{arith}
-use Rattle.reduction.proofs.Bounding.{bound-none, bound-repeated, bound-full, bound-implied, bound-kept}
+use Rattle.reduction.proofs.Keeping.Bounding.{bound-none, bound-repeated, bound-full, bound-implied, bound-kept}
 use borrow.Author.Needs.{needs}
 use Rattle.reduction.proofs.keep.kept_bound.Statement.{statement}
 use Rattle.reduction.proofs.keep.kept_bound.Tie as tie

@@ -4,9 +4,9 @@ use Prim.Native.Nat.{_≤_}
 use native.Mathlib.Omega.{arith}
 use Rattle.reader.specs.Bytes.{IsBytes}
 use Rattle.reader.specs.Family.{familyOf, regionCount}
-use Rattle.reduction.specs.Keeping.{WithStretches}
-use Rattle.reduction.proofs.HandedOn.{known, totals-at, parents-at}
-use Rattle.reduction.proofs.Gathering.{few-regions}
+use Rattle.reduction.specs.Private.Keeping.{WithStretches}
+use Rattle.reduction.proofs.Keeping.HandedOn.{known, totals-at, parents-at}
+use Rattle.reduction.proofs.Keeping.Gathering.{regions-few}
 use borrow.Author.Needs.{needs}
 use Rattle.reduction.proofs.keep.list_reduced.Statement.{statement}
 use Rattle.reduction.proofs.keep.list_reduced.Tie as tie
@@ -18,7 +18,7 @@ knows : (c : tie.After-shared-slice-known) → WithStretches (familyOf (now (c .
 knows c = known (now (c .before .args .file)) (bytes c) (c .before .pre .0 .accepted) (now (c .before .args .live)) (now (c .before .args .firsts)) (now (c .before .args .lasts)) (c .before .pre .1 .1 .0)
 
 few : (c : tie.After-shared-slice-known) → regionCount (familyOf (now (c .before .args .file))) ≤ 8191
-few c = few-regions (knows c .wellFormed)
+few c = regions-few (knows c .wellFormed)
 
 slice-aggregate-weigh : tie.Need-slice-aggregate-weigh
 slice-aggregate-weigh c = search needs

@@ -5,8 +5,8 @@ use mathlib.Core.Path.{_≡_, refl, sym, _∙_, subst}
 use native.Mathlib.Omega.{arith}
 use lib.ListN.{length, set, length-set}
 use Rattle.reader.specs.Family.{familyOf, regionCount}
-use Rattle.reduction.specs.Keeping.{NextStretch, KeptMarked}
-use Rattle.reduction.proofs.Bounding.{marks-start, next-start, next-stretch, next-same, marks-more}
+use Rattle.reduction.specs.Private.Keeping.{NextStretch, KeptMarked}
+use Rattle.reduction.proofs.Keeping.Bounding.{marks-start, next-start, next-stretch, next-same, bound-marked-more}
 use borrow.Author.Needs.{needs}
 use Rattle.reduction.proofs.keep.mark_kept.Statement.{statement}
 use Rattle.reduction.proofs.keep.mark_kept.Tie as tie
@@ -23,7 +23,7 @@ marks : (c : tie.After-kept-bound Inv-loop μ-loop) → KeptMarked (familyOf (no
 marks c =
     let pre = c .before .before .before .before .before .before .before .before .before .before .before .pre in
     let inv = c .before .before .loop .inv in
-    marks-more (pre .0) (c .before .before .loop .next) (c .before .before .loop .k) (c .before .loop-test .taken) (inv .0) (inv .2) _ _ _ (c .before .before .loop .kept) _ (pre .1 .0) (pre .1 .1 .0)
+    bound-marked-more (pre .0) (c .before .before .loop .next) (c .before .before .loop .k) (c .before .loop-test .taken) (inv .0) (inv .2) _ _ _ (c .before .before .loop .kept) _ (pre .1 .0) (pre .1 .1 .0)
     (omega (arith, c .before .before .before .before .before .before .before .before .before .shared-slice-known2 .given (c .before .before .loop .k - 1))) (omega (arith, inv .0, inv .1, pre .1 .1 .1)) (inv .3) (c .kept-bound .ensures)
 
 region-count-requires : tie.Need-region-count-requires Inv-loop μ-loop

@@ -7,7 +7,7 @@ use mathlib.Core.Path.{_≡_, sym, _∙_, subst}
 use native.Mathlib.Nat.{eq-or-lt-of-le}
 use native.Mathlib.Omega.{arith}
 use Rattle.bounds.specs.Selections.{selected}
-use Rattle.reduction.proofs.HandedOn.{begins-dead}
+use Rattle.reduction.proofs.Keeping.HandedOn.{begins-dead}
 use borrow.Author.Needs.{needs}
 use Rattle.reduction.proofs.keep.run_end.Statement.{statement}
 use Rattle.reduction.proofs.keep.run_end.Tie as tie

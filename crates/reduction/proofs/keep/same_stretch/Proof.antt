@@ -2,7 +2,7 @@
 use denote.Ref.{now}
 use mathlib.Core.Path.{sym, _∙_, ap₂}
 use lib.Dec.{eqb}
-use Rattle.reduction.proofs.Bounding.{same-differs, same-firsts}
+use Rattle.reduction.proofs.Keeping.Bounding.{same-differs, same-firsts}
 use borrow.Author.Needs.{needs}
 use Rattle.reduction.proofs.keep.same_stretch.Statement.{statement}
 use Rattle.reduction.proofs.keep.same_stretch.Tie as tie

@@ -5,8 +5,8 @@ use mathlib.Core.Path.{_≡_, refl}
 use native.Mathlib.Omega.{arith}
 use lib.ListN.{length, length-set}
 use Rattle.reader.specs.Family.{familyOf, regionCount}
-use Rattle.reduction.specs.Keeping.{WeighedBelow}
-use Rattle.reduction.proofs.Weighing.{weighed-more}
+use Rattle.reduction.specs.Private.Keeping.{WeighedBelow}
+use Rattle.reduction.proofs.Keeping.Weighing.{weighed-more}
 use borrow.Author.Needs.{needs}
 use Rattle.reduction.proofs.keep.weigh.Statement.{statement}
 use Rattle.reduction.proofs.keep.weigh.Tie as tie

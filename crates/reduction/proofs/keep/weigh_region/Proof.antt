@@ -4,8 +4,8 @@ use mathlib.Core.Path.{sym, _∙_, subst}
 use Rattle.reader.specs.Family.{familyOf, region}
 use Rattle.reader.specs.WellFormed.{IsParent}
 use Rattle.reader.proofs.Parsed.{held-z}
-use Rattle.reduction.proofs.Weighing.{weighed-outermost}
-use Rattle.reduction.proofs.Bounding.{weigh-same, weigh-other}
+use Rattle.reduction.proofs.Keeping.Weighing.{weighed-outermost}
+use Rattle.reduction.proofs.Keeping.Bounding.{weigh-same, weigh-other}
 use borrow.Author.Needs.{needs}
 use Rattle.reduction.proofs.keep.weigh_region.Statement.{statement}
 use Rattle.reduction.proofs.keep.weigh_region.Tie as tie

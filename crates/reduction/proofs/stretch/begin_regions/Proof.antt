@@ -5,8 +5,8 @@ use mathlib.Core.Path.{_≡_, refl, sym, _∙_}
 use lib.ListN.{length, length-set}
 use Rattle.reader.specs.Family.{familyOf, regionCount}
 use Rattle.reader.proofs.Parsed.{held-first}
-use Rattle.reduction.specs.Passes.{Lowered}
-use Rattle.reduction.proofs.OpenRegions.{still-begun, one-begins, all-begun}
+use Rattle.reduction.specs.Private.Passes.{Lowered}
+use Rattle.reduction.proofs.Stretching.OpenRegions.{still-begun, one-begins, all-begun}
 use borrow.Author.Needs.{needs}
 use Rattle.reduction.proofs.stretch.begin_regions.Statement.{statement}
 use Rattle.reduction.proofs.stretch.begin_regions.Tie as tie

@@ -5,8 +5,8 @@ use mathlib.Core.Path.{_≡_, refl, sym, subst, _∙_}
 use lib.ListN.{length, length-set}
 use Rattle.reader.specs.Family.{familyOf}
 use Rattle.reader.proofs.Parsed.{held-last}
-use Rattle.reduction.specs.Passes.{Open}
-use Rattle.reduction.proofs.OpenRegions.{one-ends, none-ends}
+use Rattle.reduction.specs.Private.Passes.{Open}
+use Rattle.reduction.proofs.Stretching.OpenRegions.{one-ends, none-ends}
 use borrow.Author.Needs.{needs}
 use Rattle.reduction.proofs.stretch.end_regions.Statement.{statement}
 use Rattle.reduction.proofs.stretch.end_regions.Tie as tie

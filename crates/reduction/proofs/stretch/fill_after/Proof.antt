@@ -5,7 +5,7 @@ use mathlib.Core.Path.{_≡_, refl}
 use lib.ListN.{length, length-set}
 use denote.Ref.{now}
 use Rattle.bounds.specs.Selections.{selected}
-use Rattle.reduction.proofs.NearestLive.{Nearing, nearing-starts, nearing-steps, nearing-ends}
+use Rattle.reduction.proofs.Stretching.NearestLive.{Nearing, nearing-starts, nearing-steps, nearing-ends}
 use borrow.Author.Needs.{needs}
 use Rattle.reduction.proofs.stretch.fill_after.Statement.{statement}
 use Rattle.reduction.proofs.stretch.fill_after.Tie as tie

@@ -5,7 +5,7 @@ use mathlib.Core.Path.{_≡_, refl}
 use lib.ListN.{length, length-set}
 use denote.Ref.{now}
 use Rattle.bounds.specs.Selections.{selected}
-use Rattle.reduction.proofs.NearestLive.{Passing, passing-starts, passing-steps}
+use Rattle.reduction.proofs.Stretching.NearestLive.{Passing, passing-starts, passing-steps}
 use borrow.Author.Needs.{needs}
 use Rattle.reduction.proofs.stretch.fill_before.Statement.{statement}
 use Rattle.reduction.proofs.stretch.fill_before.Tie as tie

@@ -6,7 +6,7 @@ use lib.ListN.{length}
 use denote.Ref.{now}
 use Rattle.reader.specs.Family.{familyOf, regionCount}
 use Rattle.reader.proofs.Parsed.{held-z}
-use Rattle.reduction.proofs.DeadPeptides.{low-high, high-small, Swept, none-swept, swept-more, all-swept}
+use Rattle.reduction.proofs.Stretching.DeadPeptides.{low-high, high-small, Swept, none-swept, swept-more, all-swept}
 use borrow.Author.Needs.{needs}
 use Rattle.reduction.proofs.stretch.find_live.Statement.{statement}
 use Rattle.reduction.proofs.stretch.find_live.Tie as tie

@@ -5,8 +5,8 @@ use denote.Ref.{now}
 use Rattle.reader.specs.Family.{Family, familyOf, regionCount}
 use Rattle.reader.specs.WellFormed.{WellFormed}
 use Rattle.reader.proofs.Accepting.{well-formed}
-use Rattle.reduction.specs.Passes.{WithParents, Ended}
-use Rattle.reduction.proofs.ListFronts.{known-parents, lives-begin, firsts-begin, lasts-begin}
+use Rattle.reduction.specs.Private.Passes.{WithParents, Ended}
+use Rattle.reduction.proofs.Stretching.ListFronts.{known-parents, lives-begin, firsts-begin, lasts-begin}
 use borrow.Author.Needs.{needs}
 use Rattle.reduction.proofs.stretch.find_stretches.Statement.{statement}
 use Rattle.reduction.proofs.stretch.find_stretches.Tie as tie

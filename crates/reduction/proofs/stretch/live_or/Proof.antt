@@ -4,7 +4,7 @@ use borrow.Author.Tests.{eq-eqb, ne-eqb}
 use lib.ListN.{getD}
 use Prim.Native.Nat.{_-_}
 use denote.Ref.{now}
-use Rattle.reduction.proofs.Selected.{selected-at}
+use Rattle.reduction.proofs.Basics.Selected.{selected-at}
 use borrow.Author.Needs.{needs}
 use Rattle.reduction.proofs.stretch.live_or.Statement.{statement}
 use Rattle.reduction.proofs.stretch.live_or.Tie as tie

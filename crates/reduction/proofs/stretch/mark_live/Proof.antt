@@ -3,8 +3,8 @@ use Prim.Native.Nat.{_≤_, _-_}
 use native.Mathlib.Omega.{arith}
 use mathlib.Core.Path.{_≡_, refl}
 use lib.ListN.{length, length-set}
-use Rattle.reduction.specs.Passes.{LiveMarked}
-use Rattle.reduction.proofs.DeadPeptides.{none-marked, marked-more, marked-less}
+use Rattle.reduction.specs.Private.Passes.{LiveMarked}
+use Rattle.reduction.proofs.Stretching.DeadPeptides.{none-marked, live-marked-more, marked-less}
 use borrow.Author.Needs.{needs}
 use Rattle.reduction.proofs.stretch.mark_live.Statement.{statement}
 use Rattle.reduction.proofs.stretch.mark_live.Tie as tie
@@ -38,7 +38,7 @@ loop-again c =
     let inv = c .before .before .loop .inv in (
       omega arith,
       simp length-set (inv .1),
-      marked-more _ (c .before .before .loop .live) _ (c .before .before .loop .p) _ _ (inv .0) (omega (arith, c .before .before .before .before .pre, inv .1, c .before .loop-test .taken)) (c .live-byte .ensures) (inv .2),
+      live-marked-more _ (c .before .before .loop .live) _ (c .before .before .loop .p) _ _ (inv .0) (omega (arith, c .before .before .before .before .pre, inv .1, c .before .loop-test .taken)) (c .live-byte .ensures) (inv .2),
     )
 
 same-length : tie.Need-same-length Inv-loop μ-loop

@@ -7,11 +7,11 @@ use denote.Ref.{now}
 use Rattle.reader.specs.Family.{familyOf, regionCount}
 use Rattle.reader.proofs.Parsed.{held-z}
 use Rattle.bounds.specs.Ranges.{rangeAt}
-use Rattle.reduction.specs.Steps.{firstLive, lastLive}
-use Rattle.reduction.specs.Passes.{FirstsUpTo, LastsUpTo}
-use Rattle.reduction.proofs.OpenRegions.{more-stored}
-use Rattle.reduction.proofs.DeadPeptides.{low-high, high-small}
-use Rattle.reduction.proofs.NearestLive.{first-found, last-found}
+use Rattle.reduction.specs.Private.Steps.{firstLive, lastLive}
+use Rattle.reduction.specs.Private.Passes.{FirstsUpTo, LastsUpTo}
+use Rattle.reduction.proofs.Stretching.OpenRegions.{more-stored}
+use Rattle.reduction.proofs.Stretching.DeadPeptides.{low-high, high-small}
+use Rattle.reduction.proofs.Stretching.NearestLive.{first-live-found, last-live-found}
 use borrow.Author.Needs.{needs}
 use Rattle.reduction.proofs.stretch.write_nearest.Statement.{statement}
 use Rattle.reduction.proofs.stretch.write_nearest.Tie as tie
@@ -131,9 +131,9 @@ loop-again c =
       simp length-set (inv .2),
       simp length-set (inv .3),
       more-stored (c .before .before .before .before .before .before .before .before .loop .firsts) k _ (λ i. firstLive _ (rangeAt _ i)) (omega (arith, rooms .first, inv .2)) (inv .4)
-          (first-found _ k _ _ _ z (pre .ended .ends .low k h) (pre .ended .ends .high k h) _ _ (pre .nexts (getD (now (a .lows)) k 0 + 1) (omega arith) (omega (arith, low-place (c .before .before .before .before .before .before .before)))) (c .before .before .if-within .ensures)),
+          (first-live-found _ k _ _ _ z (pre .ended .ends .low k h) (pre .ended .ends .high k h) _ _ (pre .nexts (getD (now (a .lows)) k 0 + 1) (omega arith) (omega (arith, low-place (c .before .before .before .before .before .before .before)))) (c .before .before .if-within .ensures)),
       more-stored (c .before .before .before .before .before .before .before .before .loop .lasts) k _ (λ i. lastLive _ (rangeAt _ i)) (omega (arith, rooms .second, inv .3)) (inv .5)
-          (last-found _ k _ _ _ z (pre .ended .ends .low k h) (pre .ended .ends .high k h) (pre .ended .formed) h _ _ (pre .lasts (getD (now (a .highs)) k 0) (high-place (c .before .before .before .before .before .before .before))) (c .if-within2 .ensures)),
+          (last-live-found _ k _ _ _ z (pre .ended .ends .low k h) (pre .ended .ends .high k h) (pre .ended .formed) h _ _ (pre .lasts (getD (now (a .highs)) k 0) (high-place (c .before .before .before .before .before .before .before))) (c .if-within2 .ensures)),
     )
 
 same-length : tie.Need-same-length Inv-loop μ-loop

@@ -4,7 +4,7 @@ use native.Mathlib.Omega.{arith}
 use mathlib.Core.Path.{_≡_}
 use denote.Ref.{now}
 use Rattle.reader.specs.Family.{familyOf}
-use Rattle.reduction.proofs.NearestLive.{nexts-live, lasts-live}
+use Rattle.reduction.proofs.Stretching.NearestLive.{nexts-live, lasts-live}
 use borrow.Author.Needs.{needs}
 use Rattle.reduction.proofs.stretch.write_stretches.Statement.{statement}
 use Rattle.reduction.proofs.stretch.write_stretches.Tie as tie

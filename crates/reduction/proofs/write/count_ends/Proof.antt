@@ -4,8 +4,8 @@ use native.Mathlib.Omega.{arith}
 use mathlib.Core.Path.{_≡_, refl}
 use lib.ListN.{length, getD, length-set}
 use denote.Ref.{now}
-use Rattle.reduction.specs.Writing.{Counts}
-use Rattle.reduction.proofs.LeafEnds.{counts-first, count-fits, counts-more}
+use Rattle.reduction.specs.Private.Writing.{Counts}
+use Rattle.reduction.proofs.Writing.LeafEnds.{counts-first, count-fits, counts-more}
 use borrow.Author.Needs.{needs}
 use Rattle.reduction.proofs.write.count_ends.Statement.{statement}
 use Rattle.reduction.proofs.write.count_ends.Tie as tie

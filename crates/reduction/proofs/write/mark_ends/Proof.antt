@@ -4,8 +4,8 @@ use native.Mathlib.Omega.{arith}
 use mathlib.Core.Path.{_≡_, refl, _∙_}
 use lib.ListN.{length, getD, length-set}
 use denote.Ref.{now}
-use Rattle.reduction.specs.Writing.{Marks, endsAt}
-use Rattle.reduction.proofs.LeafEnds.{ends-first, ends-more}
+use Rattle.reduction.specs.Private.Writing.{Marks, endsAt}
+use Rattle.reduction.proofs.Writing.LeafEnds.{ends-first, ends-more}
 use borrow.Author.Needs.{needs}
 use Rattle.reduction.proofs.write.mark_ends.Statement.{statement}
 use Rattle.reduction.proofs.write.mark_ends.Tie as tie

@@ -2,7 +2,7 @@
 use native.Mathlib.Omega.{arith}
 use lib.ListN.{length-set}
 use denote.Ref.{now}
-use Rattle.reduction.proofs.NumberRows.{number-put}
+use Rattle.reduction.proofs.Writing.NumberRows.{number-put}
 use borrow.Author.Needs.{needs}
 use Rattle.reduction.proofs.write.put_number.Statement.{statement}
 use Rattle.reduction.proofs.write.put_number.Tie as tie

@@ -8,10 +8,10 @@ use lib.ListN.{length}
 use denote.Ref.{now}
 use Rattle.bounds.specs.Ranges.{card}
 use Rattle.reduction.specs.Reduction.{lastOf, leafLengths}
-use Rattle.reduction.specs.Writing.{withNumbers, markedIn}
-use Rattle.reduction.proofs.Counts.{card-up}
-use Rattle.reduction.proofs.FirstLast.{lastOf-small}
-use Rattle.reduction.proofs.LeafEnds.{LeafEnds, leaf-ends, LeafGoesOn, leaf-goes-on, lengths-none, lengths-more}
+use Rattle.reduction.specs.Private.Writing.{withNumbers, markedIn}
+use Rattle.reduction.proofs.Basics.Counts.{card-up}
+use Rattle.reduction.proofs.Basics.FirstLast.{lastOf-small}
+use Rattle.reduction.proofs.Writing.LeafEnds.{LeafEnds, leaf-ends, LeafGoesOn, leaf-goes-on, lengths-none, lengths-more}
 use borrow.Author.Needs.{needs}
 use Rattle.reduction.proofs.write.write_lengths.Statement.{statement}
 use Rattle.reduction.proofs.write.write_lengths.Tie as tie

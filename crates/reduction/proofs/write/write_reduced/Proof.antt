@@ -8,10 +8,10 @@ use denote.Ref.{now}
 use Rattle.reader.specs.Bytes.{IsBytes}
 use Rattle.reader.specs.Family.{familyOf}
 use Rattle.reduction.specs.Reduction.{leafLengths}
-use Rattle.reduction.specs.Writing.{withNumbers, OnLine, endsAt, markedIn, regionNumbers}
+use Rattle.reduction.specs.Private.Writing.{withNumbers, OnLine, endsAt, markedIn, regionNumbers}
 use Rattle.reader.proofs.Lists.{zeros}
-use Rattle.reduction.proofs.LeafEnds.{marks-itself, counts-small}
-use Rattle.reduction.proofs.WholeFile.{Room, ranges-listed, bounds-there, has-room, wrote}
+use Rattle.reduction.proofs.Writing.LeafEnds.{marks-itself, counts-small}
+use Rattle.reduction.proofs.Writing.WholeFile.{Room, ranges-listed, bounds-there, has-room, wrote}
 use borrow.Author.Needs.{needs}
 use Rattle.reduction.proofs.write.write_reduced.Statement.{statement}
 use Rattle.reduction.proofs.write.write_reduced.Tie as tie

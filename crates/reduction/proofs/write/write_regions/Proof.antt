@@ -5,9 +5,9 @@ use mathlib.Core.List.{List, [], _∷_}
 use mathlib.Core.Path.{_≡_, refl, sym, ap, _∙_}
 use lib.ListN.{length, getD}
 use denote.Ref.{now}
-use Rattle.reduction.specs.Writing.{withNumbers, regionNumbers}
-use Rattle.reduction.proofs.NumberRows.{numbers-none}
-use Rattle.reduction.proofs.LeafEnds.{region-numbers-none, regions-more}
+use Rattle.reduction.specs.Private.Writing.{withNumbers, regionNumbers}
+use Rattle.reduction.proofs.Writing.NumberRows.{numbers-none}
+use Rattle.reduction.proofs.Writing.LeafEnds.{region-numbers-none, regions-more}
 use borrow.Author.Needs.{needs}
 use Rattle.reduction.proofs.write.write_regions.Statement.{statement}
 use Rattle.reduction.proofs.write.write_regions.Tie as tie

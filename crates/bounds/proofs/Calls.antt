@@ -1,0 +1,5 @@
+-- What the causes of a path and of a selection say, and what the calls answer and write.
+pub mod Selecting
+pub mod PathLaws
+pub mod SelectionCalls
+pub mod Answering

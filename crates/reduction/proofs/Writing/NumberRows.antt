@@ -1,0 +1,46 @@
+-- Numbers written in a row over a list of bytes.
+use Prim.Native.Nat.{ℕ, suc, _+_, _*_, _/_, _%_, _<_}
+use mathlib.Core.List.{List, [], _∷_, _++_}
+use mathlib.Core.Path.{_≡_, refl, sym, ap, _∙_}
+use native.Mathlib.Nat.{add-zero}
+use native.Mathlib.Numerals.{add-one}
+use native.Mathlib.Omega.{arith}
+use lib.ListN.{length, getD, take, set}
+use lib.Seq.{sets, length-take-le, take-suc}
+use Rattle.reader.specs.Bytes.{bytesOf}
+use Rattle.reader.proofs.Files.{length-bytes}
+use Rattle.reduction.specs.Private.Writing.{withNumbers}
+
+pub bytes-join : (ns ms : List ℕ) → bytesOf (ns ++ ms) ≡ bytesOf ns ++ bytesOf ms
+unfolding bytesOf
+bytes-join [] ms = refl
+bytes-join (n ∷ ns) ms = ap (λ (l : List ℕ). n % 256 ∷ n / 256 % 256 ∷ l) (bytes-join ns ms)
+
+-- a second run of stores goes on where the first ends
+pub sets-join : (l : List ℕ) (i : ℕ) (xs ys : List ℕ) (j : ℕ) → j ≡ i + length xs → sets (sets l i xs) j ys ≡ sets l i (xs ++ ys)
+sets-join l i [] ys j e = ap (λ (k : ℕ). sets l k ys) (e ∙ add-zero i)
+sets-join l i (x ∷ xs) ys j e = sets-join (set l i x) (suc i) xs ys j (omega (arith, e))
+
+module _ (out : List ℕ) (at : ℕ) where
+  pub numbers-none : withNumbers out at [] ≡ out
+  unfolding withNumbers bytesOf
+  numbers-none = refl
+
+  pub numbers-join : (ns ms : List ℕ) (next : ℕ) → next ≡ at + 2 * length ns → withNumbers (withNumbers out at ns) next ms ≡ withNumbers out at (ns ++ ms)
+  unfolding withNumbers
+  numbers-join ns ms next e =
+      sets-join out at (bytesOf ns) (bytesOf ms) next (omega (arith, e, length-bytes ns)) ∙ ap (sets out at) (sym (bytes-join ns ms))
+
+  -- the first i numbers of a list, and the next one
+  pub numbers-next : (ns : List ℕ) (i : ℕ) → i < length ns
+      → withNumbers (withNumbers out at (take i ns)) (at + 2 * i) (getD ns i 0 ∷ []) ≡ withNumbers out at (take (i + 1) ns)
+  numbers-next ns i h =
+      numbers-join (take i ns) (getD ns i 0 ∷ []) (at + 2 * i) (omega (arith, length-take-le i ns (omega arith)))
+      ∙ ap (withNumbers out at) (rw (add-one i) (sym (take-suc ns i 0 h)))
+
+  -- a number is the two stores of its bytes
+  pub number-put : (n : ℕ) → n < 65536 → set (set out at (n % 256)) (at + 1) (n / 256) ≡ withNumbers out at (n ∷ [])
+  unfolding withNumbers bytesOf
+  number-put n h =
+      let high : n / 256 ≡ n / 256 % 256 = omega arith in
+      rw (add-one at, ← high)
