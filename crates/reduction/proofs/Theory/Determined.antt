@@ -1,4 +1,9 @@
 -- The kept stretches are determined by the admissible sets: over two lists of stretches and one set S of peptides that are counted.
+-- The argument. Let s be kept in the one list. Both ends of s, grown by the greedy walk (`grown`) and cut down to z + 1 peptides of s
+-- (`picked`), are a `critical` set: too many for s, but with any one of them left out they respect all stretches of that list (`rest-fits`).
+-- The other list allows the same sets. So the critical set breaks one of its stretches, by `kept-suffice` a kept one, t (`broken-there`),
+-- but not with any one peptide left out (`few`): all of it lies in t (`all-there`), so t has the z of s, and is s or around s (`covers`).
+-- In turn a kept u of the one list is t or around t (`covered`). Having the z of s it is not strictly around s, so t is s (`kept-same`).
 use Prim.Native.Nat.{ℕ, suc, _+_, _-_, _≤_, _<_}
 use mathlib.Core.Bool.{true, false, not, _&&_}
 use mathlib.Core.List.{List}

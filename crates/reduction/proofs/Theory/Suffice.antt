@@ -1,4 +1,9 @@
 -- The kept stretches suffice: a set of counted peptides that breaks a stretch breaks a kept one.
+-- The argument. Of the stretches that A breaks take s, with the smallest z, and of those the widest (`worst`). It is kept (`worst-kept`).
+-- Around s every z is larger: a stretch there with no larger z would be broken too, and smaller or wider (`worst-larger`).
+-- And z is less than the room of s, its inside total. If A breaks nothing inside s, A itself shows it (`calm`). Else let c be the widest
+-- stretch inside s with more than z of A (`crowd`): z peptides of A in c, and an end of s that is not in c (`end`), show it (`crowded`):
+-- inside s a stretch with this end has none of c (`far`, `fits-with`), one without it is unbroken, or its z is no smaller (`fits-without`).
 use Prim.Native.Nat.{ℕ, suc, _+_, _-_, _≤_, _<_}
 use mathlib.Core.Bool.{true, false, _&&_}
 use mathlib.Core.List.{List}
