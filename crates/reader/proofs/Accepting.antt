@@ -1,4 +1,23 @@
 -- An accepted file holds a well-formed family, and what the check answers says so.
+--   ordered-if-clear                    where causes 7 and 8 do not hold, the regions lie on the leaves, in file order
+--   header-numbered, file-numbered      no cause of the header, or of the file, has the number 0, which stands for none
+--   HeaderClear                         none of the causes 1 to 5 holds
+--   header-clear                        so it is where the first cause of the header is 0
+--   header-whole                        and then the file has all the lengths and regions that its header counts
+--   FamilyClear                         none of the causes 6 to 10 holds
+--   family-clear                        so it is where the first cause of the family is 0
+--   header-none, family-none            the way back: where none of them holds, the first cause is 0
+--   file-header                         where a cause of the header holds, the first of them is the first of the file
+--   file-family                         where none does, the first of the family is the first of the file
+--   accepted-header, accepted-family    of an accepted file none of the causes 1 to 5, and none of 6 to 10 holds
+--   well-formed                         an accepted file holds a well-formed family
+--   reports-refused, reports-accepted   the first cause that holds, or m, N and K where none does, is what the check has to answer
+--   learns-refused, learns-accepted     what a caller learns from each answer: the first cause, or that none holds and what m, N and K are
+--   few-regions                         where none of the causes 1 to 5 holds, K is at most 8,191
+--   whole-length                        and the file is as long as its counts say
+--   part-accepted, part-refused         the part with the regions: of an accepted file from their offset on, of any other nothing
+--   parents-refused                     a lent list stays as it was if the file is refused
+--   parents-accepted                    else it gets the parents at its start, from a list that has them, if it has room for them
 use Prim.Native.Nat.{ℕ, zero, suc, _+_, _-_, _<_, _≤_}
 use native.Mathlib.Omega.{arith}
 use native.Mathlib.Numerals.{add-one}
@@ -130,7 +149,6 @@ module _ (s : List ℕ) where
   unfolding regionAt
   z-read bytes k l = rw (region-read s k (omega (arith, regions-read s))) (number-fits s bytes _)
 
-  -- An accepted file holds a well-formed family.
   pub well-formed : IsBytes s → Accepted s → WellFormed (familyOf s)
   well-formed bytes h =
       let F : Family = familyOf s in
@@ -164,7 +182,6 @@ module _ (s : List ℕ) where
   unfolding report checked
   reports-accepted m n k h a b c = rw (a, b, c) (sym (answers (fileCauses s) h _))
 
-  -- what a caller learns from each answer
   pub learns-refused : (n : ℕ) → report (Refused n) ≡ checked s → (n ≡ firstCause (fileCauses s)) × (n ≡ 0 → ⊥)
   unfolding report checked
   learns-refused n h = learns-number (fileCauses s) n _ _ h
@@ -178,7 +195,6 @@ module _ (s : List ℕ) where
       let e = v .1 in
       record { accepted = v .0; peptides = cc; leaves = cc; regions = cc }
 
-  -- an accepted file has K at most 8,191, and is as long as its counts say
   pub few-regions : HeaderClear s → regionCount (familyOf s) ≤ 8191
   few-regions h =
       let F : Family = familyOf s in

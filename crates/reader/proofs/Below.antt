@@ -1,4 +1,19 @@
 -- Some, none, the first and how many of the numbers below a limit pass a test.
+--   below-suc, below-next   what is below n + 1 is n or below n; for `suc n`, and for a sum `k + 1`
+--   last-below              what is below n is at most n - 1
+--   none-below-zero         below 0 no number passes
+--   some-more               some number below n + 1 passes: one below n does, or n
+--   none-more               a loop that has found none so far, and none here, has found none below n + 1
+--   some-at                 if a number below n passes, some number does
+--   none-at                 where none passes, each number below n fails
+--   none-below              if each number below n fails, none passes
+--   found                   the number that passes, where some number does
+--   some-below-more         one that passes below a limit is below any higher limit
+--   first-none              where none passes, `firstBelow` is 0
+--   first-at                the first number that passes is k, if k does and none below it; it is given as k + 1
+--   count-same              tests that agree below n pass as many numbers
+--   count-none              a test that fails for each number below n passes 0 of them
+--   count-one-more          one number more passes p than q: j, if the two agree on all others below n
 use Prim.Native.Nat.{ℕ, zero, suc, _+_, _-_, _<_, _≤_}
 use native.Mathlib.Nat.{not-suc-le-zero, eq-or-lt-of-le, le-of-suc-le-suc}
 use native.Mathlib.Numerals.{add-one}
@@ -9,7 +24,6 @@ use mathlib.Core.Logic.{_⊎_, ⊎-elim}
 use Rattle.reader.specs.Lists.{someBelow, countBelow, firstBelow}
 use Rattle.reader.proofs.Bools.{test, clash, or-l, or-r, or-either, or-neither, or-fails-l, or-fails-r}
 
--- what is below n + 1 is n or below n
 pub below-suc : {k n : ℕ} → k < suc n → (k ≡ n) ⊎ (k < n)
 below-suc h = eq-or-lt-of-le (le-of-suc-le-suc h)
 
@@ -24,7 +38,6 @@ module _ (p : ℕ → Bool) where
   unfolding someBelow
   none-below-zero = refl
 
-  -- a loop that has found none so far, and none here
   pub some-more : (n : ℕ) → someBelow (n + 1) p ≡ someBelow n p || p n
   unfolding someBelow
   some-more n = rw add-one refl
@@ -50,7 +63,6 @@ module _ (p : ℕ → Bool) where
   none-below zero h = refl
   none-below (suc n) h = or-neither (someBelow n p) (p n) (none-below n (λ k l. h k (omega arith))) (h n (omega arith))
 
-  -- the number that passes, where some number does
   pub found : (n : ℕ) → someBelow n p ≡ true → (k : ℕ) × (k < n) × (p k ≡ true)
   unfolding someBelow
   found zero h = absurd (clash h refl)
@@ -60,7 +72,6 @@ module _ (p : ℕ → Bool) where
       (λ b. (n, omega arith, b))
       (or-either (someBelow n p) (p n) h)
 
-  -- one that passes below a limit is below any higher limit
   pub some-below-more : (k n : ℕ) → k ≤ n → someBelow k p ≡ true → someBelow n p ≡ true
   some-below-more k n h t = let f = found k t in some-at n (f .0) (omega (arith, f .1)) (f .2)
 
@@ -69,7 +80,6 @@ module _ (p : ℕ → Bool) where
   first-none zero h = refl
   first-none (suc n) h = rw (or-fails-l (someBelow n p) (p n) h, or-fails-r (someBelow n p) (p n) h)
 
-  -- the first number that passes is k, if k does and none below it
   pub first-at : (n k : ℕ) → k < n → p k ≡ true → ((i : ℕ) → i < k → p i ≡ false) → firstBelow n p ≡ suc k
   unfolding firstBelow
   first-at zero k l t h = absurd (not-suc-le-zero l)
@@ -89,7 +99,6 @@ unfolding countBelow
 count-below-none p zero h = refl
 count-below-none p (suc n) h = rw (count-below-none p n (λ k l. h k (omega arith)), h n (omega arith))
 
--- one number more passes p than q: j
 pub count-one-more :
     (p q : ℕ → Bool) (n j : ℕ) → j < n → p j ≡ true → q j ≡ false → ((k : ℕ) → k < n → (k ≡ j → ⊥) → p k ≡ q k)
     → countBelow n p ≡ suc (countBelow n q)

@@ -1,9 +1,20 @@
 -- Tests that are joined by and, or and not, and what they say.
+--   test                     a test passes or fails
+--   clash                    it does not do both
+--   passes, refuted          a test that cannot fail passes, and one that cannot pass fails
+--   and-l, and-r, and-both   where `a && b` passes, a passes, and b passes; where both pass, so does it
+--   both-ways                two tests are equal if each gives the other
+--   ands                     `search ands` proves one conjunction of tests from another
+--   and-fails                where `a && b` fails, a fails or b does
+--   or-l, or-r               `a || b` passes if a does, and if b does
+--   or-either                where `a || b` passes, a passes or b does
+--   or-neither               where both fail, `a || b` fails
+--   or-fails-l, or-fails-r   where `a || b` fails, a fails, and b fails
+--   not-fails, not-passes    `not b` fails where b passes, and passes where b fails
 use mathlib.Core.Bool.{Bool, true, false, not, _&&_, _||_, true≢false}
 use mathlib.Core.Path.{_≡_, refl, sym, _∙_}
 use mathlib.Core.Logic.{_⊎_, inl, inr}
 
--- a test passes or fails
 pub test : (b : Bool) → (b ≡ true) ⊎ (b ≡ false)
 test true = inl refl
 test false = inr refl
@@ -11,7 +22,6 @@ test false = inr refl
 pub clash : {b : Bool} → b ≡ true → b ≡ false → ⊥
 clash t f = true≢false (sym t ∙ f)
 
--- a test that cannot fail passes, and one that cannot pass fails
 pub passes : (b : Bool) → (b ≡ false → ⊥) → b ≡ true
 passes true h = refl
 passes false h = absurd (h refl)
@@ -32,12 +42,10 @@ pub and-both : (a b : Bool) → a ≡ true → b ≡ true → a && b ≡ true
 and-both true b h k = k
 and-both false b h k = h
 
--- two tests are equal if each gives the other
 pub both-ways : (a b : Bool) → (a ≡ true → b ≡ true) → (b ≡ true → a ≡ true) → a ≡ b
 both-ways true b f g = sym (f refl)
 both-ways false b f g = sym (refuted b (λ e. clash (g e) refl))
 
--- `search ands` proves one conjunction of tests from another
 pub ruleset ands = (and-l, and-r, and-both)
 
 pub and-fails : (a b : Bool) → a && b ≡ false → (a ≡ false) ⊎ (b ≡ false)

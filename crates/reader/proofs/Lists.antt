@@ -1,4 +1,15 @@
 -- Laws of the lists that the definitions are written with.
+--   length-tabulate   `tabulate n f` has the length n
+--   getD-tabulate     it has f k at each place k below n
+--   tabulate-same     functions that agree below n give the same list
+--   sum-take-suc      the sum up to one element more; past the end nothing is added
+--   same-refl         the test `sameList` passes for a list and itself
+--   same-equal        lists for which it passes are equal
+--   not-same          it fails for lists that are not equal
+--   same-all          it passes for lists of one length that agree at every place
+--   same-is           it passes for equal lists
+--   copy-more         a copy of the front of one list into another, one element further
+--   zeros             a row of zeros reads 0 at every place, past its end too
 use Prim.Native.Nat.{ℕ, zero, suc, _+_, _<_}
 use native.Mathlib.Nat.{not-suc-le-zero, le-of-suc-le-suc}
 use native.Mathlib.Omega.{arith}
@@ -31,7 +42,6 @@ module _ {A : Type 0} where
   tabulate-same (suc n) f g h =
       rw (h 0 (omega arith), tabulate-same n (λ i. f (suc i)) (λ i. g (suc i)) (λ i l. h (suc i) (omega arith)))
 
--- the sum up to one element more; past the end nothing is added
 pub sum-take-suc : (l : List ℕ) (j : ℕ) → sum (take (suc j) l) ≡ sum (take j l) + getD l j 0
 unfolding sum
 sum-take-suc [] zero = refl
@@ -61,14 +71,12 @@ same-all l k e h = rw (ext-getD 0 l k e h) (same-refl k)
 pub same-is : (l k : List ℕ) → l ≡ k → sameList l k ≡ true
 same-is l k e = rw e (same-refl k)
 
--- a copy of the front of one list into another, one element further
 pub copy-more :
     (f t : List ℕ) (i : ℕ) → i < length f → i < length t → set (take i f ++ drop i t) i (getD f i 0) ≡ take (i + 1) f ++ drop (i + 1) t
 copy-more f t i lf lt =
     rw (drop-cons t i 0 lt, set-at (take i f) (getD t i 0) (drop (suc i) t) (getD f i 0) i (length-take-le i f (omega arith)), add-one i, take-suc f i 0 lf)
     (sym (append-snoc (take i f) (getD f i 0) (drop (suc i) t)))
 
--- a row of zeros, which nothing past its end differs from
 pub zeros : (n k : ℕ) → _≡_ {A = ℕ} (getD (replicate n 0) k 0) 0
 zeros zero k = refl
 zeros (suc n) zero = refl

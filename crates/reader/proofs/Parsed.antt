@@ -1,4 +1,17 @@
 -- The layout of a file: what `familyOf` reads as counts, lengths and regions.
+--   peptides-read, leaves-read, regions-read   m, N and K of the family are the numbers at offsets 4, 6 and 8
+--   length-read                                the j-th length, counted from 0, is the one that the layout has in its place
+--   length-number                              and so the number at offset 16 + 2j
+--   region-read                                the k-th region, counted from 0, is the one that the layout has in its place
+--   region-past                                from K on every region is zeros
+--   byte-past, number-past                     a byte, and a number, from the end of the file on is 0
+--   region-none                                a file that ends with the header or in it has only regions of zeros
+--   length-past, length-none                   a leaf number over N, and 0, has the length 0
+--   length-leaf                                the length of leaf j + 1 is the one at place j
+--   length-at                                  the length of leaf j, from 1 to N, is the number at offset 14 + 2j
+--   region-held                                a struct with the three numbers that the file has for the k-th region holds that region
+--   held-first, held-last, held-z              the fields of a struct that holds a region
+--   number-fits                                a number of a file of bytes is below 65,536
 use Prim.Native.Nat.{ℕ, zero, suc, _+_, _*_, _<_, _≤_}
 use native.Mathlib.Omega.{arith}
 use mathlib.Core.Path.{_≡_, refl, _∙_, ap}
@@ -57,7 +70,6 @@ past-at s l k =
     let o : ℕ = 16 + 2 * numberAt s 6 + 6 * k in
     rw (number-past s o (omega arith), number-past s (o + 2) (omega arith), number-past s (o + 4) (omega arith))
 
--- a file that ends with the header or in it has only regions of zeros
 pub region-none : (s : List ℕ) → length s ≤ 16 → (k : ℕ) → region (familyOf s) k ≡ noRegion
 region-none s l k =
     ⊎-elim
@@ -73,7 +85,6 @@ pub length-none : (F : Family) (j : ℕ) → j ≡ 0 → leafLength F j ≡ 0
 unfolding leafLength
 length-none F j e = rw e
 
--- the length of leaf j + 1 is the one at place j
 pub length-leaf : (F : Family) (j : ℕ) → leafLength F (suc j) ≡ getD (F .lengths) j 0
 unfolding leafLength
 length-leaf F j = refl
@@ -83,14 +94,12 @@ unfolding lengthAt
 length-at s zero h l = absurd (h refl)
 length-at s (suc j) h l = length-leaf (familyOf s) j ∙ length-read s j l ∙ ap (numberAt s) (omega arith)
 
--- the three numbers of the k-th region, in a struct
 pub region-held :
     (s : List ℕ) (k o : ℕ) (r : struct.Region) → o ≡ regionsOffset (numberAt s 6) + 6 * k
     → r .first .0 ≡ numberAt s o → r .last .0 ≡ numberAt s (o + 2) → r .z ≡ numberAt s (o + 4) → held r ≡ regionAt s k
 unfolding held regionAt
 region-held s k o r e a b z = rw (a, b, z, e)
 
--- the fields of a struct that holds a region
 module _ (r : struct.Region) (q : Region) (h : held r ≡ q) where
   pub held-first : r .first .0 ≡ q .first
   unfolding held

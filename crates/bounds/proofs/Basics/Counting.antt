@@ -1,4 +1,35 @@
 -- How many peptides a set has: on 1 to m, in a range, and in ranges that have no peptide in common.
+--   Subset, SameSet          of the peptides 1 to m, those of X are in Y; X and Y have the same
+--   none                     the set without a peptide
+--   card-next                on 1 to n + 1 a set has as many peptides as on 1 to n, and the bit of n + 1 more
+--   card-most                a set has no more of the peptides than there are
+--   card-mono                a set has no fewer than its subset
+--   card-same                sets that are the same on 1 to m have as many
+--   card-none                a set that has none of 1 to m has 0
+--   card-split               a set splits into what is in Z and what is not
+--   PeptideOf                a peptide of the set, one of 1 to m
+--   find                     a set has a peptide, or it has none
+--   card-more                a larger set has a peptide that the smaller one has not
+--   card-less                a set with all of another and one peptide more is larger
+--   card-but-one             a set of which all peptides but one are in another is larger by at most one
+--   adding                   a set with one more peptide, q
+--   adding-it, adding-old    q is in it, and what was in the set still is
+--   adding-other             for any other peptide nothing changes
+--   adding-either            what is in it is q or was in the set
+--   card-adding              it has one peptide more, if q is one of 1 to m and was not in the set
+--   count-mono, count-same   a count goes by the peptides of the range alone: a subset there has no more, the same set there as many
+--   count-none               a range has nothing of the set without a peptide
+--   count-adding-most        one more peptide adds at most one to a count
+--   count-adding             it adds one if the range has it, and it is one of 1 to m and new
+--   count-adding-other       it adds nothing if the range does not have it
+--   card-upto                the peptides up to n are counted as on 1 to n
+--   count-between            the peptides of a range are those up to its high end, without those up to its low end
+--   Disjoint, Apart          two ranges have no peptide in common; no two ranges of a list have
+--   Contains                 every peptide of r is one of q's
+--   cover                    every peptide of a set is in one of the ranges, or outside all of them: the counts add up to the whole or more
+--   partition                with no peptide in common, the ranges and what is outside of them add up to the whole
+--   cover-in                 the same as cover for the peptides of q
+--   partition-in             the same as partition for the peptides of q, if q contains the ranges
 use Prim.Native.Nat.{ℕ, zero, suc, _+_, _≤_, _<_}
 use mathlib.Core.Bool.{Bool, true, false, not, _&&_, _||_, and-false}
 use mathlib.Core.List.{List, [], _∷_}
@@ -28,7 +59,6 @@ pub card-next : (n : ℕ) (X : Peptides) → card (n + 1) X ≡ card n X + bit (
 unfolding card
 card-next n X = rw add-one
 
--- a set has no more of the peptides than there are
 pub card-most : (n : ℕ) (X : Peptides) → card n X ≤ n
 unfolding card
 card-most zero X = omega arith
@@ -49,7 +79,6 @@ unfolding card
 card-none zero X h = refl
 card-none (suc m) X h = omega (arith, card-none m X (λ p l u. h p l (omega arith)), ap bit (h (suc m) (omega arith) (omega arith)))
 
--- a set splits into what is in Z and what is not
 pub card-split : (m : ℕ) (Z X : Peptides) → card m X ≡ card m (λ p. Z p && X p) + card m (λ p. not (Z p) && X p)
 unfolding card
 card-split zero Z X = refl
@@ -59,14 +88,12 @@ card-split (suc m) Z X = omega (arith, card-split m Z X, bits (Z (suc m)) (X (su
     bits true x = omega arith
     bits false x = omega arith
 
--- a peptide of the set
 pub record PeptideOf (m : ℕ) (X : Peptides) : Type 0 where
   pub number : ℕ
   pub positive : 0 < number
   pub atMost : number ≤ m
   pub chosen : X number ≡ true
 
--- a set has a peptide, or it has none
 pub find : (m : ℕ) (X : Peptides) → PeptideOf m X ⊎ SameSet m X none
 find zero X = inr (λ p l u. absurd (omega arith))
 find (suc m) X = ⊎-elim (λ e. inl (last e)) (λ e. ⊎-elim (λ f. inl (below f)) (λ h. inr (neither e h)) (find m X)) (test (X (suc m)))
@@ -80,14 +107,12 @@ find (suc m) X = ⊎-elim (λ e. inl (last e)) (λ e. ⊎-elim (λ f. inl (below
     neither : X (suc m) ≡ false → SameSet m X none → SameSet (suc m) X none
     neither e h p l u = ⊎-elim (λ q. rw q e) (λ less. h p l (omega arith)) (eq-or-lt-of-le u)
 
--- a larger set has a peptide that the smaller one has not
 pub card-more : (m : ℕ) (X Y : Peptides) → card m X < card m Y → PeptideOf m (λ p. Y p && not (X p))
 card-more m X Y h = ⊎-elim (λ f. f) (λ n. absurd (omega (arith, card-mono m Y X (within n)))) (find m (λ p. Y p && not (X p)))
   where
     within : SameSet m (λ p. Y p && not (X p)) none → Subset m Y X
     within n p l u e = ⊎-elim (λ t. t) (λ f. absurd (clash (and-both (Y p) (not (X p)) e (ap not f)) (n p l u))) (test (X p))
 
--- a set with all of another and one peptide more is larger
 pub card-less : (m q : ℕ) (X Y : Peptides) → Subset m X Y → 0 < q → q ≤ m → X q ≡ false → Y q ≡ true → card m X < card m Y
 unfolding card
 card-less zero q X Y h l u e f = absurd (omega arith)
@@ -97,7 +122,6 @@ card-less (suc m) q X Y h l u e f =
     ⊎-elim (λ s. omega (arith, card-mono m X Y below, ap bit (rw s at e), ap bit (rw s at f)))
     (λ s. omega (arith, card-less m q X Y below l (omega arith) e f)) (eq-or-lt-of-le u)
 
--- a set of which all peptides but one are in another is larger by at most one
 pub card-but-one : (m q : ℕ) (X Y : Peptides) → ((p : ℕ) → 0 < p → p ≤ m → p ≢ q → X p ≡ true → Y p ≡ true) → card m X ≤ suc (card m Y)
 unfolding card
 card-but-one zero q X Y h = omega arith
@@ -142,7 +166,6 @@ card-adding m q X l u e =
 
 -- The peptides of a set in a range.
 
--- a count goes by the peptides of the range alone
 pub count-mono : (m : ℕ) (X Y : Peptides) (r : Range) → ((p : ℕ) → 0 < p → p ≤ m → has r p ≡ true → X p ≡ true → Y p ≡ true)
     → count m X r ≤ count m Y r
 unfolding count
@@ -174,7 +197,6 @@ count-adding-other m q X r h = count-same m (adding q X) X r (λ p l u i. adding
 
 -- Counts along the line.
 
--- the peptides up to n are counted as on 1 to n
 pub card-upto : (n m : ℕ) (X : Peptides) → n ≤ m → card m (λ p. leb p n && X p) ≡ card n X
 unfolding card
 card-upto n m X h = le-ind (λ k. card k upto ≡ card n X) (card-same n upto X (λ p l u. rw (le-leb p n u))) more m h
@@ -185,7 +207,6 @@ card-upto n m X h = le-ind (λ k. card k upto ≡ card n X) (card-same n upto X 
     more : (k : ℕ) → n ≤ k → card k upto ≡ card n X → card k upto + bit (leb (suc k) n && X (suc k)) ≡ card n X
     more k u ih = rw (lt-leb (suc k) n (omega arith)) (omega arith)
 
--- the peptides of a range are those up to its high end, without those up to its low end
 pub count-between : (m : ℕ) (X : Peptides) (r : Range) → r .low ≤ r .high → r .high ≤ m → card (r .low) X + count m X r ≡ card (r .high) X
 unfolding count has
 count-between m X r low high =
@@ -211,7 +232,6 @@ abbrev pub Apart : List Range → Type 0
 Apart [] = Unit {0}
 Apart (r ∷ L) = ((t : Range) → In t L → Disjoint r t) × Apart L
 
--- every peptide of r is one of q's
 abbrev pub Contains : Range → Range → Type 0
 Contains q r = (p : ℕ) → has r p ≡ true → has q p ≡ true
 
@@ -225,7 +245,6 @@ outside-both X j J p = go (has j p) (some (λ r. has r p) J)
     go true false = refl
     go false b = refl
 
--- Every peptide of a set is in one of the ranges, or outside all of them.
 pub cover : (m : ℕ) (X : Peptides) (J : List Range) → card m X ≤ sumOver (count m X) J + card m (λ p. outside J p && X p)
 unfolding sumOver outside some count
 cover m X [] = omega arith
@@ -235,7 +254,6 @@ cover m X (j ∷ J) =
     let free = card-same m (λ p. outside (j ∷ J) p && X p) (λ p. outside J p && rest p) (λ p l u. outside-both X j J p) in
     omega (arith, card-split m (has j) X, cover m rest J)
 
--- With no peptide in common, the ranges and what is outside of them add up to the whole.
 pub partition : (m : ℕ) (X : Peptides) (J : List Range) → Apart J → card m X ≡ sumOver (count m X) J + card m (λ p. outside J p && X p)
 unfolding sumOver outside some count
 partition m X [] a = omega arith

@@ -1,4 +1,24 @@
 -- Tests read as facts; the members of a list, searches through it, and sums over it.
+--   test .. or-either     laws of tests, handed on from reader's Bools: its head says what each says
+--   le-or-lt              of two numbers the first is at most the second, or the second is smaller
+--   bit                   1 if the test holds, else 0
+--   bit-few               it is at most 1
+--   bit-mono              a test that passes only if another does has no larger bit
+--   Place                 where a member stands
+--   place                 every member stands somewhere
+--   in-at                 what stands at a place of the list is a member
+--   Found                 what a search finds: a member that passes the test
+--   some-in, some-found   a search passes if a member does, and one that passes has found a member
+--   nowhere-facts         where `not (some t L)` passes, no member passes
+--   nowhere-holds         where no member passes, `not (some t L)` does
+--   search-for            a search is a choice: a member that passes, or none does
+--   in-those              a member that passes is among `those`
+--   those-in              what is among `those` is a member, and passes
+--   those-same            tests that agree on the members choose the same list
+--   sum-mono              with no term larger the sum is not larger
+--   sum-same              with all terms the same the sum is the same
+--   sum-less              one term smaller, and none larger: the sum is smaller
+--   sum-ones              a 1 for each member adds up to the length
 use Prim.Native.Nat.{ℕ, zero, suc, _≤_, _<_}
 use mathlib.Core.Bool.{Bool, true, false, not, cond}
 use mathlib.Core.List.{List, [], _∷_}
@@ -16,7 +36,6 @@ use Rattle.bounds.specs.Ranges.{some, those, sumOver, In}
 pub le-or-lt : (a b : ℕ) → (a ≤ b) ⊎ (b < a)
 le-or-lt a b = ⊎-elim (λ e. inl (leb-true a b e)) (λ e. inr (leb-false a b e)) (test (leb a b))
 
--- 1 if the test holds, else 0
 abbrev pub bit : Bool → ℕ
 bit b = cond b 1 0
 
@@ -35,7 +54,6 @@ eqb-bit false = refl
 -- Members of a list.
 
 module _ {A : Type 0} where
-  -- where a member stands
   pub record Place (x : A) (L : List A) (d : A) : Type 0 where
     pub at : ℕ
     pub inRange : at < length L
@@ -52,7 +70,6 @@ module _ {A : Type 0} where
 
   -- Searches.
 
-  -- what a search finds
   pub record Found (t : A → Bool) (L : List A) : Type 0 where
     pub it : A
     pub member : In it L
@@ -72,14 +89,12 @@ module _ {A : Type 0} where
   some-found t (y ∷ L) e =
       ⊎-elim (λ h. record { it = y; member = inl refl; passes = h }) (λ h. later t y L (some-found t L h)) (or-either (t y) (some t L) e)
 
-  -- `not (some t L)`: no member passes
   pub nowhere-facts : (t : A → Bool) (L : List A) → not (some t L) ≡ true → (x : A) → In x L → t x ≡ true → ⊥
   nowhere-facts t L e x i h = clash (some-in t L x i h) (not-true (some t L) e)
 
   pub nowhere-holds : (t : A → Bool) (L : List A) → ((x : A) → In x L → t x ≡ true → ⊥) → not (some t L) ≡ true
   nowhere-holds t L h = ap not (refuted (some t L) (λ e. let f = some-found t L e in h (f .it) (f .member) (f .passes)))
 
-  -- a search is a choice: a member that passes, or none does
   pub search-for : (t : A → Bool) (L : List A) → Found t L ⊎ ((x : A) → In x L → t x ≡ true → ⊥)
   search-for t L = ⊎-elim (λ e. inl (some-found t L e)) (λ e. inr (nowhere-facts t L (ap not e))) (test (some t L))
 
@@ -121,7 +136,6 @@ module _ {A : Type 0} where
   pub sum-same : (f g : A → ℕ) (L : List A) → ((x : A) → In x L → f x ≡ g x) → sumOver f L ≡ sumOver g L
   sum-same f g L h = omega (arith, sum-mono f g L (λ x i. omega (arith, h x i)), sum-mono g f L (λ x i. omega (arith, h x i)))
 
-  -- one term smaller, and none larger
   pub sum-less : (f g : A → ℕ) (L : List A) (x : A) → In x L → f x < g x → ((y : A) → In y L → f y ≤ g y) → sumOver f L < sumOver g L
   unfolding sumOver
   sum-less f g (y ∷ L) x (inl e) h le = omega (arith, rw e at h, sum-mono f g L (λ u i. le u (inr i)))

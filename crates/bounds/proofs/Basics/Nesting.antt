@@ -1,4 +1,25 @@
 -- Ranges inside one another: the tests read as inequalities, the parts of a range, and the two ways to go, inward and outward.
+--   Has                          p is one of r's peptides: above its low end, and not above its high end
+--   has-facts, has-holds         the test `has`, read as that, and the way back
+--   Inside                       the key of r lies in the key of q, and is shorter
+--   inside-facts, inside-holds   the test `inside`, read as that, and the way back
+--   inside-trans                 what is inside a range that is inside q is inside q
+--   inside-self                  no range is inside itself
+--   JustInside                   r is inside q, with no member of R between them
+--   just-facts, just-holds       the test `justInside`, read as that, and the way back
+--   Part                         r is a part of q: a member of R that is just inside q
+--   part-facts, part-holds       the members of the list `parts` are the parts
+--   inner                        the list of the members of R inside q
+--   inner-facts, inner-holds     what is in that list is a member of R and inside q, and the way back
+--   deep                         how many members of R are inside q
+--   deep-less                    fewer are inside a member inside q
+--   deep-most                    they are at most as many as R has
+--   Below                        P holds of every member inside q
+--   inward                       what a range has as soon as the members inside it have it, every range has
+--   AtOrIn                       t is it, or inside it
+--   Widest                       of the members inside q that pass the test, one around t or t itself, with no other around it
+--   widest                       there is such a one for every member t inside q that passes
+--   part-around                  a member inside q is a part of q, or inside one
 use Prim.Native.Nat.{ℕ, zero, suc, _+_, _≤_, _<_}
 use mathlib.Core.Bool.{Bool, true, false, not, _&&_}
 use mathlib.Core.List.{List}
@@ -12,7 +33,6 @@ use Rattle.bounds.proofs.Basics.Members.{le-or-lt, clash, refuted, and-
 
 -- The tests as inequalities.
 
--- p is one of r's peptides
 pub record Has (r : Range) (p : ℕ) : Type 0 where
   pub above : r .low < p
   pub upto : p ≤ r .high
@@ -25,7 +45,6 @@ pub has-holds : {r : Range} {p : ℕ} → Has r p → has r p ≡ true
 unfolding has
 has-holds h = search (ands, lt-ltb, le-leb)
 
--- the key of r lies in the key of q, and is shorter
 pub record Inside (r q : Range) : Type 0 where
   pub left : q .from ≤ r .from
   pub right : r .to ≤ q .to
@@ -59,7 +78,6 @@ inside-trans i j = omega arith
 pub inside-self : {r : Range} → Inside r r → ⊥
 inside-self i = omega arith
 
--- r is inside q, with no member of R between them
 pub record JustInside (R : List Range) (r q : Range) : Type 0 where
   pub inner : Inside r q
   pub next : (t : Range) → In t R → Inside r t → Inside t q → ⊥
@@ -104,11 +122,9 @@ inner-holds R {t} {q} i n = in-those (λ t. inside t q) R t i (inside-holds n)
 
 -- Inward.
 
--- how many members of R are inside q
 pub deep : List Range → Range → ℕ
 deep R q = sumOver (λ t. bit (inside t q)) R
 
--- fewer are inside a member inside q
 pub deep-less : (R : List Range) (r q : Range) → In r R → Inside r q → deep R r < deep R q
 unfolding deep
 deep-less R r q i n =
@@ -121,11 +137,9 @@ pub deep-most : (R : List Range) (q : Range) → deep R q ≤ length R
 unfolding deep
 deep-most R q = rw (← sum-ones R) (sum-mono (λ t. bit (inside t q)) (λ t. 1) R (λ t i. bit-mono (inside t q) true (λ e. refl)))
 
--- P holds of every member inside q
 abbrev pub Below : List Range → (Range → Type 0) → Range → Type 0
 Below R P q = (r : Range) → In r R → Inside r q → P r
 
--- What a range has as soon as the members inside it have it, every range has.
 pub inward : (R : List Range) (P : Range → Type 0) → ((q : Range) → Below R P q → P q) → (q : Range) → P q
 inward R P step q = go (suc (deep R q)) q (omega arith)
   where
@@ -135,11 +149,9 @@ inward R P step q = go (suc (deep R q)) q (omega arith)
 
 -- Outward.
 
--- t is it, or inside it
 abbrev pub AtOrIn : Range → Range → Type 0
 AtOrIn t it = (t ≡ it) ⊎ Inside t it
 
--- of the members inside q that pass the test, one around t or t itself, with no other around it
 pub record Widest (R : List Range) (good : Range → Bool) (q t : Range) : Type 0 where
   pub it : Range
   pub member : In it R
@@ -179,7 +191,6 @@ module _ (R : List Range) (good : Range → Bool) (q : Range) where
   pub widest : (t : Range) → In t R → good t ≡ true → Inside t q → Widest R good q t
   widest t i e tq = climb (suc (t .from + q .to)) t (omega arith) i e tq
 
--- A member inside q is a part of q, or inside one.
 pub part-around : (R : List Range) (q t : Range) → In t R → Inside t q → (j : Range) × Part R j q × AtOrIn t j
 part-around R q t i tq =
     let w = widest R (λ r. true) q t i refl tq in

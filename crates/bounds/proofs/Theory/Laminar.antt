@@ -1,5 +1,23 @@
 -- Laminar lists of ranges: keys nested or disjoint, no key twice, and peptides that follow the keys.
 -- A range may have no peptide, and two keys may have the same peptides.
+--   Fit            how two ranges lie: one inside the other or one before the other, by their keys and by their peptides
+--   Fits           every range fits all that follow it
+--   Proper         the key ends no earlier than it begins, and no peptide is over m
+--   Laminar        all members are proper, and any two fit
+--   laminar-at     a list is laminar if every member is proper and fits the later ones, place by place
+--   fit            two members are one and the same, or fit
+--   meet           two members with a common peptide are one and the same, or one is inside the other
+--   Hosts          q has the peptides of the members inside it
+--   member-hosts   a member has the peptides of the members inside it
+--   Flat           no member that passes the test is inside another that does
+--   flat-apart     of members of which none is inside another no two have a common peptide
+--   parts-apart    no two parts of q have a common peptide
+--   in-a-part      a peptide of a member inside q is in a part of q
+--   Around         q has the peptides 1 to m, and every member is inside it
+--   around-hosts   a line around all members has their peptides
+--   around-count   it has all peptides of a set that are in 1 to m
+--   line           the root range of a list
+--   line-around    it has the peptides 1 to m, and every member is inside it
 use Prim.Native.Nat.{ℕ, suc, _≤_, _<_, max}
 use mathlib.Core.Bool.{Bool, true, false, not, cond, _&&_}
 use mathlib.Core.List.{List, [], _∷_}
@@ -20,7 +38,6 @@ pub data Fit (r t : Range) : Type 0 where
   isBefore : r .to < t .from → r .high ≤ t .low → Fit r t
   isAfter : t .to < r .from → t .high ≤ r .low → Fit r t
 
--- every range fits all that follow it
 abbrev pub Fits : List Range → Type 0
 Fits [] = Unit {0}
 Fits (r ∷ R) = ((t : Range) → In t R → Fit r t) × Fits R
@@ -42,7 +59,6 @@ fits-at d (r ∷ R) h = (λ t i. first t (place d R t i), fits-at d R (λ i j le
     first : (t : Range) → Place t R d → Fit r t
     first t p = rw (p .there) (h 0 (suc (p .at)) (omega arith) (omega arith))
 
--- a list is laminar if every member fits the later ones
 pub laminar-at : {m : ℕ} (d : Range) (R : List Range) → ((k : ℕ) → k < length R → Proper m (getD R k d))
     → ((i j : ℕ) → i < j → j < length R → Fit (getD R i d) (getD R j d)) → Laminar m R
 laminar-at d R own two = record { proper = λ r i. let p = place d R r i in rw (p .there) (own (p .at) (p .inRange)); fits = fits-at d R two }
@@ -61,7 +77,6 @@ fits-two (x ∷ R) f r t (inl e) (inr j) = inr (rw e (f .0 t j))
 fits-two (x ∷ R) f r t (inr i) (inl g) = inr (rw g (fit-swap (f .0 r i)))
 fits-two (x ∷ R) f r t (inr i) (inr j) = fits-two R (f .1) r t i j
 
--- Two members are one and the same, or fit.
 pub fit : {m : ℕ} {R : List Range} → Laminar m R → (r t : Range) → In r R → In t R → (r ≡ t) ⊎ Fit r t
 fit {R = R} l = fits-two R (l .fits)
 
@@ -72,7 +87,6 @@ fit-meet (isAround i l h) p a b = inr i
 fit-meet {r} {t} (isBefore k e) p a b = absurd (omega (arith, has-facts r p a, has-facts t p b))
 fit-meet {r} {t} (isAfter k e) p a b = absurd (omega (arith, has-facts r p a, has-facts t p b))
 
--- Two members with a common peptide are one and the same, or one is inside the other.
 pub meet : {m : ℕ} {R : List Range} → Laminar m R → (r t : Range) → In r R → In t R → (p : ℕ) → has r p ≡ true → has t p ≡ true
     → (r ≡ t) ⊎ Inside r t ⊎ Inside t r
 meet l r t i j p a b = ⊎-elim inl (λ f. inr (fit-meet f p a b)) (fit l r t i j)
@@ -84,17 +98,14 @@ fit-contains (isAround i l h) o n p a = absurd (omega arith)
 fit-contains (isBefore k e) o n p a = absurd (omega arith)
 fit-contains (isAfter k e) o n p a = absurd (omega arith)
 
--- q has the peptides of the members inside it
 abbrev pub Hosts : List Range → Range → Type 0
 Hosts R q = (r : Range) → In r R → Inside r q → Contains q r
 
--- A member has the peptides of the members inside it.
 pub member-hosts : {m : ℕ} {R : List Range} → Laminar m R → (q : Range) → In q R → Hosts R q
 member-hosts l q j r i n = ⊎-elim (λ e. absurd (inside-self (rw e at n))) (λ f. fit-contains f (l .proper r i .order) n) (fit l r q i j)
 
 -- Members without a common peptide.
 
--- no member that passes the test is inside another
 abbrev pub Flat : List Range → (Range → Bool) → Type 0
 Flat R good = (r t : Range) → In r R → In t R → good r ≡ true → good t ≡ true → Inside r t → ⊥
 
@@ -112,16 +123,13 @@ fits-apart good (x ∷ R) f flat = go (good x) refl (fits-apart good R (f .1) (�
     go true e rest = (disjoint e, rest)
     go false e rest = rest
 
--- Members of which none is inside another have no common peptide.
 pub flat-apart : {m : ℕ} {R : List Range} → Laminar m R → (good : Range → Bool) → Flat R good → Apart (those good R)
 flat-apart {R = R} l good flat = fits-apart good R (l .fits) flat
 
--- The parts of q have no common peptide.
 pub parts-apart : {m : ℕ} {R : List Range} → Laminar m R → (q : Range) → Apart (parts R q)
 unfolding parts
 parts-apart {R = R} l q = flat-apart l (λ r. justInside R r q) (λ r t i j a b n. just-facts R r q a .next t j n (just-facts R t q b .inner))
 
--- A peptide of a member inside q is in a part of q.
 pub in-a-part : {m : ℕ} {R : List Range} → Laminar m R → (q t : Range) → In t R → Inside t q → (p : ℕ) → has t p ≡ true
     → outside (parts R q) p ≡ false
 unfolding outside
@@ -132,17 +140,14 @@ in-a-part {R = R} l q t i n p a =
 
 -- The whole line.
 
--- q has the peptides 1 to m, and every member is inside it
 pub record Around (m : ℕ) (R : List Range) (q : Range) : Type 0 where
   pub every : (r : Range) → In r R → Inside r q
   pub start : q .low ≡ 0
   pub end : q .high ≡ m
 
--- a line around all members has their peptides,
 pub around-hosts : {m : ℕ} {R : List Range} {q : Range} → Laminar m R → Around m R q → Hosts R q
 around-hosts l a r i n p h = has-holds (omega (arith, has-facts r p h, l .proper r i))
 
--- and all peptides of a set
 pub around-count : {m : ℕ} {R : List Range} {q : Range} → Around m R q → (X : Peptides) → count m X q ≡ card m X
 unfolding count
 around-count {m} {q = q} a X = card-same m (λ p. has q p && X p) X (λ p l u. rw (has-holds {r = q} {p = p} (omega arith)))
@@ -156,7 +161,6 @@ unfolding furthest
 furthest-le (x ∷ R) r (inl e) = rw e (omega arith)
 furthest-le (x ∷ R) r (inr i) = omega (arith, furthest-le R r i)
 
--- the root range of a list
 pub line : ℕ → List Range → Range
 line m R = record { from = 0; to = suc (furthest R); low = 0; high = m; z = 0 }
 

@@ -1,4 +1,19 @@
 -- Lists that go through the numbers 1 to n, or through all pairs of them: their members and their order.
+--   in-append               a member of two lists joined is a member of one of them
+--   append-l, append-r      a member of either is a member of both joined
+--   At                      x stands at one of the numbers 1 to n
+--   in-rising, in-falling   what is in the list that goes through 1 to n, up or down, stands at one of these numbers
+--   rising-in, falling-in   what stands at one of them is in the list
+--   InCell                  x stands in the cell of a pair a ≤ b of the numbers 1 to m
+--   in-grid, grid-in        what is in the grid stands in such a cell, and the way back
+--   Before                  x comes before y in file order
+--   before-same             of two that begin together the earlier one ends later
+--   before-le               the earlier one begins no later
+--   FileOrder               every range of the list comes before all that follow it
+--   those-ordered           the ranges that pass a test stay in order
+--   Placed                  cells that hold at most one range, whose key is the cell's place
+--   grid-ordered            a grid of such cells is in file order
+--   ordered-same            two lists in file order with the same members are equal
 use Prim.Native.Nat.{ℕ, zero, suc, _≤_, _<_}
 use mathlib.Core.Bool.{Bool, true, false, cond}
 use mathlib.Core.List.{List, [], _∷_, _++_}
@@ -27,7 +42,6 @@ pub append-r : {A : Type 0} (x : A) (L M : List A) → In x M → In x (L ++ M)
 append-r x [] M i = i
 append-r x (y ∷ L) M i = inr (append-r x L M i)
 
--- x stands at one of the numbers 1 to n
 pub record At {A : Type 0} (n : ℕ) (f : ℕ → List A) (x : A) : Type 0 where
   pub place : ℕ
   pub positive : 1 ≤ place
@@ -66,7 +80,6 @@ falling-in (suc n) f x a h k i =
     (λ l. append-r x (f (suc n)) (falling n f) (falling-in n f x a h (omega arith) i))
     (eq-or-lt-of-le k)
 
--- x stands in the cell of a pair a ≤ b of the numbers 1 to m
 pub record InCell (m : ℕ) (f : ℕ → ℕ → List Range) (x : Range) : Type 0 where
   pub a : ℕ
   pub b : ℕ
@@ -137,7 +150,6 @@ falling-ordered (suc n) f o h =
     append-ordered (f (suc n)) (falling n f) (o (suc n)) (falling-ordered n f o (λ a b k l. h a b k (omega arith)))
     (λ x y i j. let c = in-falling n f y j in h (c .place) (suc n) (omega arith) (omega arith) x y i (c .member))
 
--- the ranges that pass a test stay in order
 pub those-ordered : (t : Range → Bool) (L : List Range) → FileOrder L → FileOrder (those t L)
 unfolding those
 those-ordered t [] o = tt
@@ -147,7 +159,6 @@ those-ordered t (x ∷ L) o = go (t x) (those-ordered t L (o .1))
     go true p = (λ y i. o .0 y (those-in t L y i .0), p)
     go false p = p
 
--- Cells that hold at most one range, whose key is the cell's place.
 pub record Placed (f : ℕ → ℕ → List Range) : Type 0 where
   pub single : (a b : ℕ) → FileOrder (f a b)
   pub from : (a b : ℕ) (x : Range) → In x (f a b) → x .from ≡ a

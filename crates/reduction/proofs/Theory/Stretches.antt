@@ -1,4 +1,16 @@
 -- The stretches of a list of ranges: the stretch of one range in facts, and where a stretch of the list comes from.
+--   StretchOf                      a..b is the stretch of r: its z is at least 1, and a and b are its first and its last live peptide
+--   live-in, in-live               a live peptide of r is a peptide of r and live, and the way back
+--   its-stretch                    a range with a live peptide and z at least 1 has a stretch, from the first to the last of these peptides
+--   stretch-facts, stretch-holds   the test `hasStretch`, read as StretchOf if a is at least 1, and the way back
+--   wider                          a larger range has the live peptides of a smaller one, and so its stretch, or one around that
+--   Source                         where a stretch comes from: a range with that stretch and that z; none with that stretch has a smaller z
+--   stretch-in                     a stretch has only peptides of its range
+--   at-piece                       what stands in the cell of a and b has a..b for its key and its peptides
+--   at-single                      a cell is in file order: it has one range at most
+--   stretches-facts                every stretch of the list has a source
+--   stretches-ordered              the list of the stretches is in file order
+--   Listed, stretches-holds        a range with a stretch has it in the list, with a z no larger
 use Prim.Native.Nat.{ℕ, suc, _-_, _≤_}
 use mathlib.Core.Bool.{true, _&&_}
 use mathlib.Core.List.{List, [], _∷_}
@@ -14,7 +26,6 @@ use Rattle.reduction.specs.Reduction.{piece, live, livePeptides, firstOf
 use Rattle.reduction.proofs.Basics.Grid.{in-grid, grid-in, FileOrder, grid-ordered}
 use Rattle.reduction.proofs.Basics.FirstLast.{firstOf-small, firstOf-member, firstOf-atMost, firstOf-is, lastOf-small, lastOf-member, lastOf-atLeast, lastOf-is}
 
--- The stretch a..b of the range r.
 pub record StretchOf (m : ℕ) (R : List Range) (a b : ℕ) (r : Range) : Type 0 where
   pub bound : 1 ≤ r .z
   pub positive : 1 ≤ a
@@ -39,7 +50,6 @@ module _ (m : ℕ) (R : List Range) (r : Range) where
   unfolding livePeptides
   in-live p h e = and-both (has r p) (live R p) h e
 
-  -- it goes from the first to the last live peptide of r, where r has one and its z is at least 1
   pub its-stretch : 1 ≤ r .z → 1 ≤ firstOf m (livePeptides R r) → StretchOf m R (firstOf m (livePeptides R r)) (lastOf m (livePeptides R r)) r
   its-stretch z h =
       let k : firstOf m X ≤ lastOf m X = lastOf-atLeast m X (firstOf m X) h (firstOf-small m X) (firstOf-member m X h) in
@@ -76,7 +86,6 @@ module _ (m : ℕ) (R : List Range) (r : Range) where
       let g = lastOf-is m X b (omega arith) (s .small) (in-live b (s .lastIn) (s .lastLive)) right in
       and-both _ _ (and-both _ _ (lt-ltb 0 (r .z) (s .bound)) (eq-eqb (firstOf m X) a f)) (eq-eqb (lastOf m X) b g)
 
--- a larger range has the live peptides of a smaller one, and so the longer stretch
 pub wider : {m : ℕ} {R : List Range} {a b c d : ℕ} {r q : Range} → StretchOf m R a b r → StretchOf m R c d q → q .low ≤ r .low → r .high ≤ q .high
     → (c ≤ a) × (b ≤ d)
 wider {a = a} {b = b} {r = r} {q = q} s t l h =
@@ -137,7 +146,6 @@ unfolding merged
 merged-single a b [] = tt
 merged-single a b (x ∷ L) = (λ y i. absurd i, tt)
 
--- Where a stretch comes from: a range with that stretch and that z. The other ranges with that stretch have no smaller z.
 pub record Source (m : ℕ) (R : List Range) (s : Range) : Type 0 where
   pub range : Range
   pub member : In range R
@@ -147,7 +155,6 @@ pub record Source (m : ℕ) (R : List Range) (s : Range) : Type 0 where
   pub low : suc (s .low) ≡ s .from
   pub high : s .high ≡ s .to
 
--- a stretch has only peptides of its range
 pub stretch-in : {m : ℕ} {R : List Range} {s : Range} (c : Source m R s) (p : ℕ) → has s p ≡ true → has (c .range) p ≡ true
 stretch-in {s = s} c p e =
     let d = has-facts s p e in
@@ -201,7 +208,6 @@ module _ (m : ℕ) (R : List Range) where
         to = λ a b s i. ap (λ (t : Range). t .to) (at-piece a b s i);
       })
 
-  -- a range with a stretch has it in the list, with a z no larger
   pub record InStretches (a b : ℕ) (r : Range) : Type 0 where
     pub it : Range
     pub member : In it (stretches m R)
