@@ -11,8 +11,8 @@
 --   some-below-more         one that passes below a limit is below any higher limit
 --   first-none              where none passes, `firstBelow` is 0
 --   first-at                the first number that passes is k, if k does and none below it; it is given as k + 1
---   count-same              tests that agree below n pass as many numbers
---   count-none              a test that fails for each number below n passes 0 of them
+--   count-below-same        tests that agree below n pass as many numbers
+--   count-below-none        a test that fails for each number below n passes 0 of them
 --   count-one-more          one number more passes p than q: j, if the two agree on all others below n
 use Prim.Native.Nat.{ℕ, zero, suc, _+_, _-_, _<_, _≤_}
 use native.Mathlib.Nat.{not-suc-le-zero, eq-or-lt-of-le, le-of-suc-le-suc}

@@ -6,7 +6,7 @@
 --   rising-in, falling-in   what stands at one of them is in the list
 --   InCell                  x stands in the cell of a pair a ≤ b of the numbers 1 to m
 --   in-grid, grid-in        what is in the grid stands in such a cell, and the way back
---   Before                  x comes before y in file order
+--   Precedes                x comes before y in file order
 --   before-same             of two that begin together the earlier one ends later
 --   before-le               the earlier one begins no later
 --   FileOrder               every range of the list comes before all that follow it

@@ -10,7 +10,7 @@
 --   at-single                      a cell is in file order: it has one range at most
 --   stretches-facts                every stretch of the list has a source
 --   stretches-ordered              the list of the stretches is in file order
---   Listed, stretches-holds        a range with a stretch has it in the list, with a z no larger
+--   InStretches, stretches-holds   a range with a stretch has it in the list, with a z no larger
 use Prim.Native.Nat.{ℕ, suc, _-_, _≤_}
 use mathlib.Core.Bool.{true, _&&_}
 use mathlib.Core.List.{List, [], _∷_}
