@@ -27,23 +27,21 @@ use mathlib.Core.Path.{_≡_, refl, sym, ap, _∙_}
 use mathlib.Core.Logic.{inl, inr, ⊎-elim}
 use lib.ListN.{length, take, drop}
 use lib.Seq.{take-length}
-use lib.Dec.{ltb, eqb}
-use borrow.Author.Tests.{ne-eqb, lt-ltb, le-ltb}
+use lib.Dec.{eqb}
+use borrow.Author.Tests.{ne-eqb}
 use Rattle.reader.specs.Bytes.{IsBytes}
 use Rattle.reader.specs.Family as family
 use Rattle.reader.specs.Family.{Family, leaves, regionCount, region, regionAt, familyOf, regionsOffset, totalLength}
 use Rattle.reader.specs.Causes.{cause1, cause2, cause3, cause4, cause5, cause6, cause7, cause8, cause9, cause10, firstCause, headerCauses, familyCauses, fileCauses, Accepted}
-use Rattle.reader.specs.Nesting.{parent, parents}
-use Rattle.reader.specs.WellFormed.{Ordered, WellFormed, ParentsBelow}
+use Rattle.reader.specs.WellFormed.{Ordered, WellFormed}
 use Rattle.reader.specs.Private.InPlace.{Whole}
 use Rattle.reader.specs.declared.Checked.the-variants.{Family as Accepts, Refused}
-use Rattle.reader.specs.Calls.{report, counts, answer, written, checked, regionPart, partStart, RegionsGiven, short, parentsCauses, ParentsAnswers, ParentsWrites}
+use Rattle.reader.specs.Calls.{report, checked, regionPart, partStart, RegionsGiven}
 use Rattle.reader.proofs.Below.{below-suc}
-use Rattle.reader.proofs.Lists.{length-tabulate}
 use Rattle.reader.proofs.Parsed.{leaves-read, regions-read, region-read, number-fits}
-use Rattle.reader.proofs.First.{Numbered, head-clear, join-clear, join-holds, clear-left, clear-right, answers, declines, writes, leaves-unchanged, same-first, none-or-some, learns-number, learns-values}
+use Rattle.reader.proofs.First.{Numbered, head-clear, join-clear, join-holds, clear-left, clear-right, answers, declines, learns-number, learns-values}
 use Rattle.reader.proofs.Judged.{Before, peptides-counted, leaves-counted, regions-counted, laid-down, lengths-clear, regions-placed, regions-rise}
-use Rattle.reader.proofs.Climbing.{parents-written, nested-if-clear, shallow-if-clear}
+use Rattle.reader.proofs.Climbing.{nested-if-clear, shallow-if-clear}
 
 -- The order of neighbours carries over to all.
 
@@ -232,64 +230,3 @@ module _ (s : List ℕ) where
   pub part-given : {q p : ℕ × ℕ} {r : List ℕ} → q .0 ≡ p .0 → q .1 ≡ p .1 + partStart s → r ≡ regionPart s → RegionsGiven q r p s
   part-given b o e =
       record { part = record { block = b; place = o; bytes = e ∙ part-from ∙ ap (λ (l : List ℕ). take (length l) (drop (partStart s) s)) (sym e) }; bytes = e }
-
--- What `parents` answers and writes.
-
-module _ (s out : List ℕ) where
-  parents-file : (firstCause (fileCauses s) ≡ 0 → ⊥) → firstCause (parentsCauses s out) ≡ firstCause (fileCauses s)
-  unfolding parentsCauses
-  parents-file h = join-holds (fileCauses s) _ h
-
-  parents-room : Accepted s → firstCause (parentsCauses s out) ≡ cond (ltb (length out) (regionCount (familyOf s))) 16 0
-  unfolding parentsCauses short firstCause
-  parents-room h = join-clear (fileCauses s) _ (file-numbered s) h
-
-  -- with room for K places no cause holds but those of the file
-  pub parents-first : (Accepted s → regionCount (familyOf s) ≤ length out) → firstCause (parentsCauses s out) ≡ firstCause (fileCauses s)
-  parents-first room =
-      ⊎-elim
-      (λ h. parents-room h ∙ ap (λ (b : Bool). cond b 16 0) (le-ltb (length out) (regionCount (familyOf s)) (room h)) ∙ sym h)
-      (λ h. parents-file h)
-      (none-or-some (fileCauses s))
-
-  pub parents-unwritten : (firstCause (fileCauses s) ≡ 0 → ⊥) → ParentsWrites s out out
-  parents-unwritten h = sym (leaves-unchanged (parentsCauses s out) (λ z. h (sym (parents-file h) ∙ z)) _ out)
-
-  pub parents-short : Accepted s → length out < regionCount (familyOf s) → ParentsAnswers s out (Refused 16) × ParentsWrites s out out
-  unfolding report
-  parents-short h l =
-      let e : firstCause (parentsCauses s out) ≡ 16 = parents-room h ∙ ap (λ (b : Bool). cond b 16 0) (lt-ltb (length out) (regionCount (familyOf s)) l) in
-      let some : firstCause (parentsCauses s out) ≡ 0 → ⊥ = λ z. omega arith in
-      (rw (sym e) (sym (declines (parentsCauses s out) some _)), sym (leaves-unchanged (parentsCauses s out) some _ out))
-
-  pub parents-checked : (Accepted s → regionCount (familyOf s) ≤ length out) → answer (parentsCauses s out) (counts (familyOf s)) ≡ checked s
-  unfolding checked
-  parents-checked room = same-first (parentsCauses s out) (fileCauses s) (parents-first room) _
-
-  pub parents-start : firstCause (parentsCauses s out) ≡ 0 → written (parentsCauses s out) (parents (familyOf s)) out ≡ parents (familyOf s) ++ drop (regionCount (familyOf s)) out
-  unfolding parents
-  parents-start h =
-      let F : Family = familyOf s in
-      writes (parentsCauses s out) h (parents F) out ∙ ap (λ (n : ℕ). parents F ++ drop n out) (length-tabulate (regionCount F) (parent F))
-
-  -- the parents that are known, copied to the start of the lent list
-  pub parents-accepted :
-      Accepted s → regionCount (familyOf s) ≤ length out
-      → (P : List ℕ) (k : ℕ) → k ≡ regionCount (familyOf s) → ParentsBelow (familyOf s) P (regionCount (familyOf s)) → regionCount (familyOf s) ≤ length P
-      → ParentsWrites s out (take k P ++ drop k out)
-  parents-accepted h room P k e known fits =
-      let F : Family = familyOf s in
-      let clear = accepted-family s h in
-      let o = ordered-if-clear F (clear .no7) (clear .no8) in
-      rw (e, parents-written F o (nested-if-clear F o (clear .no9)) P known fits) (sym (parents-start (parents-first (λ a. room) ∙ h)))
-
-  -- 8,191 places are enough for any accepted file
-  module _ (enough : 8191 ≤ length out) where
-    pub enough-room : Accepted s → regionCount (familyOf s) ≤ length out
-    enough-room h = omega (arith, few-regions s (accepted-header s h))
-
-    pub enough-first : firstCause (parentsCauses s out) ≡ firstCause (fileCauses s)
-    enough-first = parents-first enough-room
-
-    pub enough-checked : answer (parentsCauses s out) (counts (familyOf s)) ≡ checked s
-    enough-checked = parents-checked enough-room

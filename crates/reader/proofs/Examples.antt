@@ -2,13 +2,13 @@
 use Prim.Native.Nat.{ℕ, _-_}
 use mathlib.Core.List.{List, [], _∷_}
 use mathlib.Core.Path.{_≡_, refl}
-use lib.ListN.{replicate, drop}
+use lib.ListN.{replicate, take, drop}
 use Rattle.reader.specs.Lists.{tabulate, sum, sameList, someBelow, countBelow, firstBelow}
 use Rattle.reader.specs.Bytes.{numberAt, bytesOf}
 use Rattle.reader.specs.Family.{Region, Family, region, mark, lengthAt, regionAt, familyOf, regionFields, fields, fileOf}
 use Rattle.reader.specs.Nesting.{before, shareLeaf, regionWithin, crossing, regionInside, regionJustInside, parent, parents}
 use Rattle.reader.specs.Causes.{cause1, cause2, cause3, cause4, cause5, cause6, cause7, cause8, cause9, cause10, misplaced, firstCause, headerCauses, familyCauses, fileCauses}
-use Rattle.reader.specs.Calls.{answer, checked, regionPart}
+use Rattle.reader.specs.Calls.{answer, checked, regionPart, partStart}
 
 abbrev range : ℕ → ℕ → ℕ → Region
 range a b z = record { first = a; last = b; z = z }
@@ -67,9 +67,17 @@ pub eight-accepted : checked eightFile ≡ record { number = 0; values = 8 ∷ 4
 unfolding number answer checked
 eight-accepted = refl
 
-pub eight-regions : regionPart eightFile ≡ drop 24 eightFile
-unfolding number regionPart
-eight-regions = refl
+pub eight-regions : (regionPart eightFile ≡ drop 24 eightFile) × (partStart eightFile ≡ 24)
+unfolding number regionPart partStart
+eight-regions = (refl, refl)
+
+-- leaf lengths with the bytes of the region: the place alone tells the two apart
+abbrev pub twin : Family
+twin = record { peptides = 7; lengths = 1 ∷ 1 ∷ 5 ∷ []; regions = range 1 1 5 ∷ [] }
+
+pub twin-regions : (regionPart (fileOf twin) ≡ take 6 (drop 16 (fileOf twin))) × (partStart (fileOf twin) ≡ 22)
+unfolding number regionPart partStart
+twin-regions = (refl, refl)
 
 -- regions 2 and 3 lie just inside region 1, region 5 just inside region 4
 pub eight-parents : parents eight ≡ 0 ∷ 1 ∷ 1 ∷ 0 ∷ 4 ∷ []

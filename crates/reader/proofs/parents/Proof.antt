@@ -7,7 +7,8 @@ use lib.ListN.{length}
 use denote.Ref.{now}
 use Rattle.reader.specs.Family.{familyOf, regionCount}
 use Rattle.reader.specs.Causes.{firstCause, fileCauses, Accepted}
-use Rattle.reader.proofs.Accepting.{accepted-header, few-regions, parents-checked, parents-unwritten, parents-short, parents-accepted}
+use Rattle.reader.proofs.Accepting.{accepted-header, few-regions}
+use Rattle.reader.proofs.ParentLaws.{parents-checked, parents-unwritten, parents-short, parents-accepted}
 use borrow.Author.Needs.{needs}
 use Rattle.reader.proofs.parents.Statement.{statement}
 use Rattle.reader.proofs.parents.Tie as tie

@@ -17,7 +17,8 @@ use Rattle.reader.specs.Calls.{short, ParentsWrites}
 use Rattle.reader.proofs.Bools.{test}
 use Rattle.reader.proofs.First.{Numbered, first-holds, first-fails, head-clear, join-clear, join-holds, answers, declines, writes, leaves-unchanged}
 use Rattle.reader.proofs.Judged.{peptides-counted, leaves-counted, regions-counted}
-use Rattle.reader.proofs.Accepting.{accepted-header, whole-length, file-numbered, parents-start, enough-first}
+use Rattle.reader.proofs.Accepting.{accepted-header, whole-length, file-numbered}
+use Rattle.reader.proofs.ParentLaws.{parents-start, enough-first}
 use Rattle.reduction.specs.Reduction.{reducedFile}
 use Rattle.reduction.specs.Private.Steps.{Begins}
 use Rattle.reduction.specs.declared.ReducedFile.{ReducedFile}

@@ -2,7 +2,8 @@
 use mathlib.Core.Path.{sym, ap, _∙_}
 use denote.Ref.{now}
 use Rattle.reader.specs.Calls.{report}
-use Rattle.reader.proofs.Accepting.{learns-accepted, learns-refused, enough-checked}
+use Rattle.reader.proofs.Accepting.{learns-accepted, learns-refused}
+use Rattle.reader.proofs.ParentLaws.{enough-checked}
 use Rattle.reduction.proofs.Calls.ReduceCalls.{judged-accepted, judged-refused}
 use borrow.Author.Needs.{needs}
 use Rattle.reduction.proofs.file_cause.Statement.{statement}

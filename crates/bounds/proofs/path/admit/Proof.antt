@@ -7,8 +7,8 @@ use Rattle.reader.specs.Bytes.{IsBytes}
 use Rattle.reader.specs.Family.{familyOf}
 use Rattle.reader.specs.Causes.{Accepted}
 use Rattle.reader.specs.Calls.{report}
-use Rattle.reader.proofs.Accepting.{well-formed, learns-accepted, learns-refused, enough-room, enough-first, enough-checked}
-use Rattle.reader.proofs.ParentLaws.{parents-given}
+use Rattle.reader.proofs.Accepting.{well-formed, learns-accepted, learns-refused}
+use Rattle.reader.proofs.ParentLaws.{enough-room, enough-first, enough-checked, parents-given}
 use Rattle.bounds.specs.Private.Walks.{numberCause}
 use Rattle.bounds.proofs.Calls.PathLaws.{all-different, repeat-holds, number-first, path-13, path-none, path-short, path-numbers, file-most, input-file, input-path, walkable}
 use borrow.Author.Needs.{needs}
