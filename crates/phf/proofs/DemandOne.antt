@@ -13,7 +13,8 @@ use Rattle.reader.specs.Lists.{sameList}
 use Rattle.reader.specs.Bytes.{numberAt}
 use Rattle.reader.specs.Family.{familyOf, leaves, regionCount, regionsOffset}
 use Rattle.reader.specs.Causes.{Cause, firstCause, headerCauses, familyCauses, fileCauses, Accepted}
-use Rattle.reader.specs.Calls.{report, checked, regionPart}
+use Rattle.reader.specs.Nesting as nesting
+use Rattle.reader.specs.Calls.{report, checked, regionPart, CheckAnswers, RegionsGiven, parentsCauses, ParentsAnswers, ParentsWrites}
 use Rattle.reader.specs.declared.Checked.{Checked}
 use Rattle.reader.specs.declared.Checked.the-variants as told
 use Rattle.reader.proofs.First.{Numbered, none-or-some}
@@ -54,6 +55,7 @@ pub record DemandOne : Type 0 where
   pub no-cause : (cs : List Cause) → Numbered cs → (firstCause cs ≡ 0) ↔ NoneHolds cs
   -- The causes that each call tries, in this order.
   pub check-tries : (file : List ℕ) → numbers (fileCauses file) ≡ 1 ∷ 2 ∷ 3 ∷ 4 ∷ 5 ∷ 6 ∷ 7 ∷ 8 ∷ 9 ∷ 10 ∷ []
+  pub parents-tries : (file out : List ℕ) → numbers (parentsCauses file out) ≡ 1 ∷ 2 ∷ 3 ∷ 4 ∷ 5 ∷ 6 ∷ 7 ∷ 8 ∷ 9 ∷ 10 ∷ 16 ∷ []
   pub bound-tries : (file selection out : List ℕ) → numbers (selectionCauses file selection out) ≡ 1 ∷ 2 ∷ 3 ∷ 4 ∷ 5 ∷ 6 ∷ 7 ∷ 8 ∷ 9 ∷ 10 ∷ 14 ∷ 16 ∷ []
   pub curve-tries : (file path values marks : List ℕ) → numbers (curveCauses file path values marks) ≡ 1 ∷ 2 ∷ 3 ∷ 4 ∷ 5 ∷ 6 ∷ 7 ∷ 8 ∷ 9 ∷ 10 ∷ 11 ∷ 12 ∷ 13 ∷ 16 ∷ []
   pub cut-tries : (file path : List ℕ) (a b : ℕ) → numbers (cutCauses file path a b) ≡ 1 ∷ 2 ∷ 3 ∷ 4 ∷ 5 ∷ 6 ∷ 7 ∷ 8 ∷ 9 ∷ 10 ∷ 11 ∷ 12 ∷ 13 ∷ 15 ∷ []
@@ -86,8 +88,12 @@ pub record DemandOne : Type 0 where
       r (λ n. record { number = n; same = 0 }) (record { number = 0; same = cond (sameList (reducedFile first) (reducedFile second)) 1 0 })
       [] [] []
   -- The calls of the three libraries, in the same order.
-  pub check : (file : List ℕ) (r : Checked) → report r ≡ checked file
+  pub check : (file : List ℕ) (r : Checked) → CheckAnswers file r
       → Obeys (fileCauses file) r told.Refused (told.Family (familyOf file .peptides) (leaves (familyOf file)) (regionCount (familyOf file))) [] [] []
+  pub parents : (file out new : List ℕ) (r : Checked) → ParentsAnswers file out r → ParentsWrites file out new
+      → Obeys (parentsCauses file out)
+      r told.Refused (told.Family (familyOf file .peptides) (leaves (familyOf file)) (regionCount (familyOf file)))
+      (new ∷ []) (out ∷ []) (atStart (nesting.parents (familyOf file)) out ∷ [])
   pub bound : (file selection taken new : List ℕ) (r : Bounded) → BoundAnswers file selection taken r → TakenWrites file selection taken new
       → Obeys (selectionCauses file selection taken)
       r bounded.Refused (bounded.Bound (boundOf (familyOf file) selection))
@@ -113,7 +119,7 @@ pub record DemandOne : Type 0 where
       r compared.Refused (cond (sameList (reducedFile first) (reducedFile second)) compared.Same compared.Different)
       [] [] []
   -- The part that holds the regions is empty exactly when the file is refused or K is 0; in C it has the length 0 exactly then.
-  pub regions : (file part : List ℕ) → part ≡ regionPart file → (part ≡ []) ↔ ((Accepted file → ⊥) ⊎ (regionCount (familyOf file) ≡ 0))
+  pub regions : (place fileAt : ℕ × ℕ) (part file : List ℕ) → RegionsGiven place part fileAt file → (part ≡ []) ↔ ((Accepted file → ⊥) ⊎ (regionCount (familyOf file) ≡ 0))
   pub phf-regions : (file : List ℕ) (r : PhfPart) → PhfRegionsAnswers file r → (r .length ≡ 0) ↔ ((Accepted file → ⊥) ⊎ (regionCount (familyOf file) ≡ 0))
 
 -- The calls with a path.
@@ -175,12 +181,13 @@ module _ (file : List ℕ) where
       (λ a. let six = ap (λ (p : PhfPart). p .length) (part-fields file a) in (λ e. omega arith, λ k. omega arith))
 
 pub demand-one : DemandOne
-unfolding headerCauses familyCauses fileCauses causesWithRoom pathCauses inputCauses curveCauses cutCauses reduceCauses compareCauses checked checkedFields boundedFields reducedFields comparedFields valueAt reducedCounts comparison checkedOf boundedOf reducedOf comparedOf
+unfolding headerCauses familyCauses fileCauses parentsCauses causesWithRoom pathCauses inputCauses curveCauses cutCauses reduceCauses compareCauses checked checkedFields boundedFields reducedFields comparedFields valueAt reducedCounts comparison checkedOf boundedOf reducedOf comparedOf
 demand-one =
     record {
       first-cause = first-is;
       no-cause = none-holds;
       check-tries = λ file. refl;
+      parents-tries = λ file out. refl;
       bound-tries = λ file selection out. refl;
       curve-tries = λ file path values marks. refl;
       cut-tries = λ file path a b. refl;
@@ -193,12 +200,13 @@ demand-one =
       phf-reduce = λ file out new r h w. made-obeys (reduceCauses file out) _ reducedFields r (new ∷ []) _ _ h (lent-one _ _ _ _ w);
       phf-same = λ first second r h. made-obeys (compareCauses first second) _ comparedFields r [] [] [] h (nothing-lent _);
       check = λ file r h. remade-obeys (fileCauses file) _ report checkedOf checked-again r [] [] [] h (nothing-lent (fileCauses file));
+      parents = λ file out new r h w. remade-obeys (parentsCauses file out) _ report checkedOf checked-again r (new ∷ []) _ _ h (lent-one _ _ _ _ w);
       bound = λ file selection taken new r h w. remade-obeys (selectionCauses file selection taken) _ reportBound boundedOf bounded-again r (new ∷ []) _ _ h (lent-one _ _ _ _ w);
       inside-totals = λ file selection out new r h w. remade-obeys (selectionCauses file selection out) _ reportBound boundedOf bounded-again r (new ∷ []) _ _ h (lent-one _ _ _ _ w);
       curve = λ file path values marks newValues newMarks r h d v w. obeys-on-path _ path [] _ h r _ _ _ _ _ (curve-refuses _ path r h) (curve-does _ path r h d) (curve-lent file path values marks newValues newMarks v w);
       cut = λ file path a b r h. obeys-on-path _ path _ _ h r _ _ [] [] [] (cut-refuses _ path _ r h) (cut-does _ path _ r h) (nothing-lent _);
       reduce = λ file out new r h w. remade-obeys (reduceCauses file out) _ reportReduced reducedOf reduced-again r (new ∷ []) _ _ h (lent-one _ _ _ _ w);
       same = λ first second r h. rw (← yes-or-no (sameList (reducedFile first) (reducedFile second))) (remade-obeys (compareCauses first second) _ reportCompared comparedOf compared-again r [] [] [] h (nothing-lent _));
-      regions = λ file part h. rw h (part-empty file);
+      regions = λ place fileAt part file h. rw (h .bytes) (part-empty file);
       phf-regions = λ file r h. rw h (length-empty file);
     }

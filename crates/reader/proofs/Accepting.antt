@@ -16,8 +16,8 @@
 --   few-regions                         where none of the causes 1 to 5 holds, K is at most 8,191
 --   whole-length                        and the file is as long as its counts say
 --   part-accepted, part-refused         the part with the regions: of an accepted file from their offset on, of any other nothing
---   parents-refused                     a lent list stays as it was if the file is refused
---   parents-accepted                    else it gets the parents at its start, from a list that has them, if it has room for them
+--   start-accepted, start-refused       where that part begins: at the regions' offset, or at the file's first byte
+--   part-given                          a slice at that place with these bytes is what `regions` has to hand back
 use Prim.Native.Nat.{ℕ, zero, suc, _+_, _-_, _<_, _≤_}
 use native.Mathlib.Omega.{arith}
 use native.Mathlib.Numerals.{add-one}

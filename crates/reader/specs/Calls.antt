@@ -39,6 +39,10 @@ counts F = F .peptides ∷ leaves F ∷ regionCount F ∷ []
 unfoldable pub checked : List ℕ → Report
 checked s = answer (fileCauses s) (counts (familyOf s))
 
+-- the answer r of `check`
+abbrev pub CheckAnswers : List ℕ → Checked → Type 0
+CheckAnswers s r = report r ≡ checked s
+
 -- the part of an accepted file that holds the regions; nothing of any other file
 unfoldable pub regionPart : List ℕ → List ℕ
 regionPart s = cond (eqb (firstCause (fileCauses s)) 0) (drop (regionsOffset (leaves (familyOf s))) s) []

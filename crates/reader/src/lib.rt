@@ -21,7 +21,7 @@ ghost use lib.ListN.{length, take, drop};
 ghost use Rattle.reader.specs.Family.{familyOf};
 ghost use Rattle.reader.specs.Causes.{firstCause, headerCauses, fileCauses};
 ghost use Rattle.reader.specs.Private.Climb.{FamilyJudged, Judged};
-ghost use Rattle.reader.specs.Calls.{report, checked, RegionsGiven, ParentsAnswers, ParentsWrites};
+ghost use Rattle.reader.specs.Calls.{CheckAnswers, RegionsGiven, ParentsAnswers, ParentsWrites};
 
 // An accepted family with m, N and K, or the number of the first cause that holds.
 pub enum Checked {
@@ -70,7 +70,7 @@ fn judge(file: &[u8], parents: &mut [u16]) -> u8
 // The answer of the check, given the first cause that holds.
 fn answer_for(file: &[u8], cause: u8) -> Checked
     requires { ⌜ cause ≡ firstCause (fileCauses (now file)) ⌝ }
-    ensures { λ r. ⌜ report r ≡ checked (now (file .entry)) ⌝ }
+    ensures { λ r. ⌜ CheckAnswers (now (file .entry)) r ⌝ }
 {
     if cause != 0 {
         return Checked::Refused(cause as u16);
@@ -84,7 +84,7 @@ fn answer_for(file: &[u8], cause: u8) -> Checked
 
 // Whether the bytes are an accepted family: m, N and K, or the number of the first cause that holds.
 pub fn check(file: &[u8]) -> Checked
-    ensures { λ r. ⌜ report r ≡ checked (now (file .entry)) ⌝ }
+    ensures { λ r. ⌜ CheckAnswers (now (file .entry)) r ⌝ }
 {
     let mut parents = [0u16; 8191];
     let cause = judge(file, &mut parents);

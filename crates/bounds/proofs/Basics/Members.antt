@@ -3,6 +3,7 @@
 --   le-or-lt              of two numbers the first is at most the second, or the second is smaller
 --   bit                   1 if the test holds, else 0
 --   bit-few               it is at most 1
+--   eqb-bit               it is 1 exactly if the test holds
 --   bit-mono              a test that passes only if another does has no larger bit
 --   Place                 where a member stands
 --   place                 every member stands somewhere
