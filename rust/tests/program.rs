@@ -1,12 +1,16 @@
-//! The program target/bin/curve on pairs of files: missing, truncated, odd, too long, refused and accepted ones. What it
-//! has to print is worked out here by the plain implementation.
+//! The program target/bin/curve on pairs of files: missing, truncated, odd, too long, refused and accepted ones, and such as
+//! cannot be opened or read; and on output that cannot be written. What it has to print is worked out here by the plain
+//! implementation. No proof says what is read or written, so this is what holds the program to it.
 
 use phf_tests::families::{binary_tree, chain, eight_peptides, file, random_family, Bounds};
 use phf_tests::random::{cases, Random};
 use phf_tests::reference::{curve, file_of};
 use std::fs;
+use std::os::unix::fs::{symlink, PermissionsExt};
+use std::os::unix::process::CommandExt;
 use std::path::{Path, PathBuf};
-use std::process::Command;
+use std::process::{Command, Stdio};
+use std::sync::OnceLock;
 
 fn program() -> PathBuf {
     let path = Path::new(env!("CARGO_MANIFEST_DIR")).join("../target/bin/curve");
@@ -18,8 +22,8 @@ fn program() -> PathBuf {
     path.canonicalize().unwrap()
 }
 
-/// What the program prints in a folder with these files.
-fn printed(name: &str, family: Option<&[u8]>, path: Option<&[u8]>) -> String {
+/// A new folder with these files.
+fn folder(name: &str, family: Option<&[u8]>, path: Option<&[u8]>) -> PathBuf {
     let folder = Path::new(env!("CARGO_TARGET_TMPDIR")).join(name);
     let _ = fs::remove_dir_all(&folder);
     fs::create_dir_all(&folder).unwrap();
@@ -29,13 +33,29 @@ fn printed(name: &str, family: Option<&[u8]>, path: Option<&[u8]>) -> String {
     if let Some(bytes) = path {
         fs::write(folder.join("path.u16"), bytes).unwrap();
     }
-    let output = Command::new(program())
-        .current_dir(&folder)
-        .output()
-        .unwrap();
-    assert!(output.status.success());
-    assert!(output.stderr.is_empty());
-    String::from_utf8(output.stdout).unwrap()
+    folder
+}
+
+/// What a command that ends well writes to standard output and to standard error.
+fn said(command: &mut Command) -> (String, String) {
+    let output = command.output().unwrap();
+    assert!(output.status.success(), "{command:?}: {}", output.status);
+    (
+        String::from_utf8(output.stdout).unwrap(),
+        String::from_utf8(output.stderr).unwrap(),
+    )
+}
+
+/// What a command prints that has nothing to say on standard error.
+fn quiet(command: &mut Command) -> String {
+    let (text, errors) = said(command);
+    assert_eq!(errors, "");
+    text
+}
+
+/// What the program prints in a folder with these files.
+fn printed(name: &str, family: Option<&[u8]>, path: Option<&[u8]>) -> String {
+    quiet(Command::new(program()).current_dir(folder(name, family, path)))
 }
 
 /// What it has to print, from the scope document's words.
@@ -91,16 +111,141 @@ fn e1() {
     assert_eq!(text, e1);
 }
 
+/// What it prints if family.phf, or path.u16 beside an accepted family, is empty or counts as empty.
+const NO_FAMILY: &str = "refused 1\n";
+const NO_PATH: &str = "t peptide bound mark\n0 0 0 0\n";
+
 #[test]
 fn missing_and_empty_files() {
     let eight = file_of(&eight_peptides());
     let path = bytes(&[1, 2]);
-    let empty_path = "t peptide bound mark\n0 0 0 0\n";
-    assert_eq!(run("no-family", None, Some(&path)), "refused 1\n");
-    assert_eq!(run("no-path", Some(&eight), None), empty_path);
-    assert_eq!(run("nothing", None, None), "refused 1\n");
-    assert_eq!(run("empty-family", Some(&[]), Some(&path)), "refused 1\n");
-    assert_eq!(run("empty-path", Some(&eight), Some(&[])), empty_path);
+    assert_eq!(run("no-family", None, Some(&path)), NO_FAMILY);
+    assert_eq!(run("no-path", Some(&eight), None), NO_PATH);
+    assert_eq!(run("nothing", None, None), NO_FAMILY);
+    assert_eq!(run("empty-family", Some(&[]), Some(&path)), NO_FAMILY);
+    assert_eq!(run("empty-path", Some(&eight), Some(&[])), NO_PATH);
+}
+
+/// The program on the eight-peptide family and a path, of which `make` puts something else in the place of one file.
+fn with_other(name: &str, other: &str, make: fn(&Path)) -> String {
+    let eight = file_of(&eight_peptides());
+    let folder = folder(name, Some(&eight), Some(&bytes(&[1, 2])));
+    let place = folder.join(other);
+    fs::remove_file(&place).unwrap();
+    make(&place);
+    quiet(Command::new(program()).current_dir(folder))
+}
+
+#[test]
+fn folders_for_files() {
+    let make = |place: &Path| fs::create_dir(place).unwrap();
+    assert_eq!(
+        with_other("folder-for-family", "family.phf", make),
+        NO_FAMILY
+    );
+    assert_eq!(with_other("folder-for-path", "path.u16", make), NO_PATH);
+}
+
+#[test]
+fn links_that_lead_nowhere() {
+    let around = |place: &Path| symlink(place, place).unwrap();
+    assert_eq!(with_other("family-around", "family.phf", around), NO_FAMILY);
+    assert_eq!(with_other("path-around", "path.u16", around), NO_PATH);
+}
+
+#[test]
+fn files_without_permission() {
+    let eight = file_of(&eight_peptides());
+    let folder = folder("no-permission", Some(&eight), Some(&bytes(&[1, 2])));
+    let allow = |place: &Path, mode: u32| {
+        fs::set_permissions(place, fs::Permissions::from_mode(mode)).unwrap();
+    };
+    let (family, path) = (folder.join("family.phf"), folder.join("path.u16"));
+    allow(&folder, 0o755);
+    allow(&family, 0o644);
+    allow(&path, 0);
+    let mut curve = Command::new(program());
+    curve.current_dir(&folder);
+    if fs::read(&path).is_ok() {
+        // root reads every file, so the program runs as nobody
+        curve.uid(65_534).gid(65_534);
+    }
+    if let Err(error) = curve.output() {
+        eprintln!(
+            "skipped: root reads every file, and nobody cannot run the program here: {error}"
+        );
+        return;
+    }
+    assert_eq!(quiet(&mut curve), NO_PATH);
+    allow(&path, 0o644);
+    allow(&family, 0);
+    assert_eq!(quiet(&mut curve), NO_FAMILY);
+}
+
+/// tests/c/faults.c, compiled.
+fn faults() -> &'static Path {
+    static MADE: OnceLock<PathBuf> = OnceLock::new();
+    MADE.get_or_init(|| {
+        let source = Path::new(env!("CARGO_MANIFEST_DIR")).join("tests/c/faults.c");
+        let made = Path::new(env!("CARGO_TARGET_TMPDIR")).join("faults.so");
+        let mut cc = Command::new("cc");
+        cc.args(["-std=c99", "-Wall", "-Wextra", "-Werror", "-O1"]);
+        quiet(
+            cc.args(["-fPIC", "-shared"])
+                .arg(source)
+                .arg("-o")
+                .arg(&made),
+        );
+        made
+    })
+}
+
+/// The program in a folder, with reads and writes that fail as tests/c/faults.c says.
+fn faulty(folder: &Path, settings: &[(&str, &str)]) -> Command {
+    let mut command = Command::new(program());
+    command
+        .current_dir(folder)
+        .env("LD_PRELOAD", faults())
+        .envs(settings.iter().copied());
+    command
+}
+
+/// The program where the reads of a file fail once they have brought some bytes.
+fn fails_after(folder: &Path, file: &str, count: usize) -> String {
+    let count = count.to_string();
+    quiet(&mut faulty(
+        folder,
+        &[("FAULT_FILE", file), ("FAULT_READ", &count)],
+    ))
+}
+
+#[test]
+fn reads_that_fail_part_way() {
+    let eight = file_of(&eight_peptides());
+    let path = bytes(&[7, 3, 1, 4, 6, 2, 5, 8]);
+    let whole = run("fails", Some(&eight), Some(&path));
+    let folder = folder("fails", Some(&eight), Some(&path));
+    // even where the last byte was read, nothing says that it was the last
+    for count in 0..=eight.len() {
+        assert_eq!(fails_after(&folder, "family.phf", count), NO_FAMILY);
+    }
+    for count in 0..=path.len() {
+        assert_eq!(fails_after(&folder, "path.u16", count), NO_PATH);
+    }
+    // no read fails that is not made
+    assert_eq!(fails_after(&folder, "family.phf", eight.len() + 1), whole);
+    assert_eq!(fails_after(&folder, "path.u16", path.len() + 1), whole);
+}
+
+#[test]
+fn reads_and_writes_in_steps() {
+    let (family, path) = longest_files();
+    let whole = run("steps", Some(&family), Some(&path));
+    let folder = folder("steps", Some(&family), Some(&path));
+    for step in ["100", "4096", "57353"] {
+        let text = quiet(&mut faulty(&folder, &[("FAULT_STEP", step)]));
+        assert!(text == whole, "in steps of {step}");
+    }
 }
 
 #[test]
@@ -147,37 +292,118 @@ fn refused_paths() {
     refused("long-path", &[1; 20_000], 11);
 }
 
-#[test]
-fn the_longest_files() {
+/// The longest legal family, and a path of all its peptides.
+fn longest_files() -> (Vec<u8>, Vec<u8>) {
     let random = &mut Random::new(50);
     let family = file_of(&binary_tree(random, 4096, 1, Bounds::Small));
-    assert_eq!(family.len(), 57_354);
-    let path = random.order(4096);
-    let text = run("longest", Some(&family), Some(&bytes(&path)));
+    let path = bytes(&random.order(4096));
+    assert_eq!((family.len(), path.len()), (57_354, 8_192));
+    (family, path)
+}
+
+#[test]
+fn the_longest_files() {
+    let (family, path) = longest_files();
+    let text = run("longest", Some(&family), Some(&path));
     assert_eq!(text.lines().count(), 4098);
-    let mut more = path.clone();
-    more.push(1);
-    assert_eq!(
-        run("longer-path", Some(&family), Some(&bytes(&more))),
-        "refused 11\n"
+    for more in [1, 2, 3, 100, 20_000] {
+        let mut longer = path.clone();
+        longer.resize(path.len() + more, 0);
+        let text = run("longer-path", Some(&family), Some(&longer));
+        assert_eq!(text, "refused 11\n", "{more} bytes more");
+        let mut longer = family.clone();
+        longer.resize(family.len() + more, 0);
+        let text = run("longer-family", Some(&longer), Some(&path));
+        assert_eq!(text, "refused 5\n", "{more} bytes more");
+    }
+}
+
+/// Reads that fail past the limits are not made, and those up to them are.
+#[test]
+fn the_read_limits() {
+    let (mut family, mut path) = longest_files();
+    let folder_of = |name: &str, family: &[u8], path: &[u8]| folder(name, Some(family), Some(path));
+    path.resize(10_000, 0);
+    let long_path = folder_of("path-limit", &family, &path);
+    assert_eq!(fails_after(&long_path, "path.u16", 8_194), "refused 11\n");
+    assert_eq!(fails_after(&long_path, "path.u16", 8_193), NO_PATH);
+    family.resize(60_000, 0);
+    let long_family = folder_of("family-limit", &family, &path);
+    let text = fails_after(&long_family, "family.phf", 57_355);
+    assert_eq!(text, "refused 5\n");
+    let text = fails_after(&long_family, "family.phf", 57_354);
+    assert_eq!(text, NO_FAMILY);
+}
+
+/// No table has more bytes: 4,096 lines, and in each the value of t is t.
+#[test]
+fn the_longest_text() {
+    let mut order: Vec<u16> = (1..=4096).collect();
+    order.reverse();
+    let text = run(
+        "longest-text",
+        Some(&file(&[4096], &[])),
+        Some(&bytes(&order)),
     );
-    more.extend([1; 100]);
-    assert_eq!(
-        run("much-longer-path", Some(&family), Some(&bytes(&more))),
-        "refused 11\n"
-    );
-    let mut odd = bytes(&path);
-    odd.push(0);
-    assert_eq!(
-        run("longest-odd", Some(&family), Some(&odd)),
-        "refused 11\n"
-    );
-    let mut longer = family.clone();
-    longer.push(0);
-    assert_eq!(
-        run("longer-family", Some(&longer), Some(&bytes(&path))),
-        "refused 5\n"
-    );
+    assert_eq!(text.len(), 66_340);
+    assert!(text.ends_with("4096 1 4096 1\n"));
+}
+
+const NOT_WHOLE: &str = "curve: the output could not be written whole\n";
+
+#[test]
+fn output_that_cannot_be_written() {
+    let full = || {
+        fs::OpenOptions::new()
+            .write(true)
+            .open("/dev/full")
+            .unwrap()
+    };
+    let (family, path) = longest_files();
+    for (name, family) in [("full", &family[..]), ("full-refused", &family[..9])] {
+        let folder = folder(name, Some(family), Some(&path));
+        let mut curve = Command::new(program());
+        curve.current_dir(&folder).stdout(full());
+        assert_eq!(said(&mut curve), (String::new(), NOT_WHOLE.into()));
+    }
+}
+
+#[test]
+fn standard_output_closed() {
+    let (family, path) = longest_files();
+    let folder = folder("closed", Some(&family), Some(&path));
+    let closed = |which: &str| {
+        let mut shell = Command::new("sh");
+        shell
+            .current_dir(&folder)
+            .arg("-c")
+            .arg(format!("exec \"$0\" {which}"));
+        said(shell.arg(program()).stdin(Stdio::null()))
+    };
+    // the files that the program opens then get the free numbers, and are closed before it writes
+    assert_eq!(closed(">&-"), (String::new(), NOT_WHOLE.into()));
+    assert_eq!(closed("<&- >&-"), (String::new(), NOT_WHOLE.into()));
+    assert_eq!(closed(">&- 2>&-"), (String::new(), String::new()));
+    let whole = expected(Some(&family), Some(&path));
+    assert_eq!(closed("<&- 2>&-"), (whole, String::new()));
+    assert_eq!(fs::read(folder.join("family.phf")).unwrap(), family);
+    assert_eq!(fs::read(folder.join("path.u16")).unwrap(), path);
+}
+
+#[test]
+fn output_that_is_cut() {
+    let (family, path) = longest_files();
+    let whole = run("cut", Some(&family), Some(&path));
+    let folder = folder("cut", Some(&family), Some(&path));
+    for count in [0, 1, 1000, whole.len() / 2, whole.len() - 1] {
+        let limit = count.to_string();
+        let (text, errors) = said(&mut faulty(&folder, &[("FAULT_WRITE", &limit)]));
+        assert!(text == whole[..count], "cut after {count}");
+        assert_eq!(errors, NOT_WHOLE);
+    }
+    let limit = whole.len().to_string();
+    let text = quiet(&mut faulty(&folder, &[("FAULT_WRITE", &limit)]));
+    assert!(text == whole);
 }
 
 #[test]

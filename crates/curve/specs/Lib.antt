@@ -2,3 +2,4 @@
 pub mod Text
 pub mod Appends
 pub mod Program
+pub mod Buffers
