@@ -10,7 +10,7 @@ use lib.Seq.{take-suc-set, take-suc}
 use lib.Dec.{leb}
 use Rattle.reader.proofs.Bools.{test}
 use Rattle.curve.specs.Text.{digitAt, decimal, fieldOf, lineOf, rows, rowAt}
-use Rattle.curve.specs.Appends.{Appends}
+use Rattle.curve.specs.Private.Appends.{Appends}
 
 pub appends-none : (b : List ℕ) (at : ℕ) → at ≤ length b → Appends b at b at []
 appends-none b at h = record { ends = omega arith; text = sym (append-nil (take at b)); fits = h }

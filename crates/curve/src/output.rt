@@ -15,7 +15,7 @@ ghost use Prim.Native.Nat.{ℕ, _≤_};
 ghost use lib.ListN.{length, take};
 ghost use Rattle.reader.specs.Causes.{firstCause};
 ghost use Rattle.bounds.specs.Calls.{inputCauses};
-ghost use Rattle.curve.specs.Appends.{Appends};
+ghost use Rattle.curve.specs.Private.Appends.{Appends};
 ghost use Rattle.curve.specs.Program.{programCauses, odd, textOf, output};
 ghost use Rattle.curve.specs.Buffers.{familyRoom, pathRoom, textRoom, Held};
 

@@ -4,7 +4,7 @@ ghost use mathlib.Core.List.{[], _∷_};
 ghost use Prim.Native.Nat.{_+_, _*_, _≤_, _<_};
 ghost use lib.ListN.{length};
 ghost use Rattle.curve.specs.Text.{digitAt, decimal, fieldOf, lineOf, rows, rowAt, tableOf, refusal};
-ghost use Rattle.curve.specs.Appends.{Appends, Rows};
+ghost use Rattle.curve.specs.Private.Appends.{Appends, Rows};
 
 fn put_byte(out: &mut [u8], at: usize, b: u8) -> usize
     requires { ⌜ at < length (now out) ⌝ }

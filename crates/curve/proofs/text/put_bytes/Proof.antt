@@ -6,7 +6,7 @@ use mathlib.Core.Path.{_≡_, refl}
 use lib.ListN.{length, take, length-set}
 use lib.Seq.{take-all}
 use denote.Ref.{now}
-use Rattle.curve.specs.Appends.{Appends}
+use Rattle.curve.specs.Private.Appends.{Appends}
 use Rattle.curve.proofs.Appending.{appends-none, appends-more}
 use borrow.Author.Needs.{needs}
 use Rattle.curve.proofs.text.put_bytes.Statement.{statement}

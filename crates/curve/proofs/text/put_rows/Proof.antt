@@ -5,7 +5,7 @@ use mathlib.Core.Path.{_≡_, refl, _∙_}
 use lib.ListN.{length}
 use denote.Ref.{now}
 use Rattle.curve.specs.Text.{rows, rowAt}
-use Rattle.curve.specs.Appends.{Appends}
+use Rattle.curve.specs.Private.Appends.{Appends}
 use Rattle.curve.proofs.Appending.{appends-none, appends-then, rows-none, rows-more, row-short}
 use borrow.Author.Needs.{needs}
 use Rattle.curve.proofs.text.put_rows.Statement.{statement}
