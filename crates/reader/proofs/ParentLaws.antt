@@ -1,4 +1,4 @@
--- The parents as defined are the regions just around; what `parents` answers and writes, and that the list that it leaves has them.
+-- The parents as defined are the regions just around, and the list that `parents` leaves has them.
 use Prim.Native.Nat.{ℕ, zero, suc, _-_, _<_, _≤_}
 use native.Mathlib.Nat.{eq-or-lt-of-le}
 use native.Mathlib.Omega.{arith}

@@ -51,8 +51,8 @@ regionPart s = cond (eqb (firstCause (fileCauses s)) 0) (drop (regionsOffset (le
 unfoldable pub partStart : List ℕ → ℕ
 partStart s = cond (eqb (firstCause (fileCauses s)) 0) (regionsOffset (leaves (familyOf s))) 0
 
+-- The slice r at q is a part of the slice s at p, from byte start of s on; equal bytes that lie elsewhere are not that part.
 -- Where a slice lies is a pair: its block of memory, and how many bytes of the block come before it.
--- The slice r that lies at q is the part of the slice s that lies at p, from byte start of it on: equal bytes that lie elsewhere are not.
 pub record PartOf (q : ℕ × ℕ) (r : List ℕ) (p : ℕ × ℕ) (s : List ℕ) (start : ℕ) : Type 0 where
   pub block : q .0 ≡ p .0
   pub place : q .1 ≡ p .1 + start

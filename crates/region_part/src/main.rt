@@ -1,5 +1,5 @@
-// Writes the bytes that `reader::regions` hands back of family.phf in the current folder. C cannot be handed a part of its own memory, so
-// this is what a test of that call runs.
+// Writes the bytes that `reader::regions` hands back of family.phf in the current folder. C cannot be handed a part of its
+// own memory, so this is what a test of that call runs.
 use libc::STDOUT_FILENO;
 
 fn main() {

@@ -1,4 +1,4 @@
--- A refused file is declined as by the check, an accepted one by 16 where the lent slice has too few places; else the parents that the
+-- A refused file is declined as by the check, an accepted one by 16 where there is too little room; else the parents that the
 -- check found are copied.
 use Prim.Native.Nat.{_≤_}
 use native.Mathlib.Omega.{arith}
