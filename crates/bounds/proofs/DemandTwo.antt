@@ -15,7 +15,7 @@ use Rattle.reader.proofs.Bools.{not-fails, clash}
 use Rattle.reader.proofs.Lists.{length-tabulate}
 use Rattle.reader.proofs.First.{answers, writes}
 use Rattle.bounds.specs.Ranges.{Range, Peptides, card, rangesOf, those}
-use Rattle.bounds.specs.Bound.{Admissible, IsLargest, isTaken, takenBytes, named, takenSum}
+use Rattle.bounds.specs.Bound.{Admissible, IsLargest, isTaken, takenBytes, takenBy, takenSum}
 use Rattle.bounds.specs.Selections.{selected, boundOf, takenOf}
 use Rattle.bounds.specs.Curves.{among, entry, curveValues, markAt, curveMarks}
 use Rattle.bounds.specs.Paths.{marked}
@@ -27,7 +27,7 @@ use Rattle.bounds.specs.Calls.{reportBound, declinedCurve, selectionCaus
 use Rattle.bounds.specs.AcceptedCalls.{CurveCall, BoundCall}
 use Rattle.bounds.proofs.Theory.Greedy.{respects-facts}
 use Rattle.bounds.proofs.Theory.Formula.{bound-same}
-use Rattle.bounds.proofs.Theory.Taken.{named-those, named-most}
+use Rattle.bounds.proofs.Theory.Taken.{takenBy-those, takenBy-most}
 use Rattle.bounds.proofs.Theory.Family.{accepted-laminar}
 use Rattle.bounds.proofs.Calls.SelectionCalls.{selection-clear}
 use Rattle.bounds.proofs.Calls.Answering.{curve-clear}
@@ -146,15 +146,15 @@ module _ (f : AcceptedFile) (b : BoundCall f) where
   answered n e = cc answers-bound
 
   -- the regions whose byte is 1 are those taken
-  named-taken : named (b .taken) (rangesIn f) ≡ those (isTaken (peptidesIn f) (rangesIn f) (selected (b .selection))) (rangesIn f)
+  takenBy-taken : takenBy (b .taken) (rangesIn f) ≡ those (isTaken (peptidesIn f) (rangesIn f) (selected (b .selection))) (rangesIn f)
   unfolding takenOf takenBytes
-  named-taken =
-      ap (λ (l : List ℕ). named l (rangesIn f)) (b .writes-taken ∙ writes _ none (takenOf (familyOf (f .file)) (b .selection)) (b .old-taken))
-      ∙ named-those (isTaken (peptidesIn f) (rangesIn f) (selected (b .selection))) (rangesIn f) _
+  takenBy-taken =
+      ap (λ (l : List ℕ). takenBy l (rangesIn f)) (b .writes-taken ∙ writes _ none (takenOf (familyOf (f .file)) (b .selection)) (b .old-taken))
+      ∙ takenBy-those (isTaken (peptidesIn f) (rangesIn f) (selected (b .selection))) (rangesIn f) _
 
   sum-is : takenSum (peptidesIn f) (rangesIn f) (selected (b .selection)) (b .taken) ≡ theBound
   unfolding takenSum
-  sum-is = rw named-taken (sym (taken-add-up (f .file) (f .bytes) (f .accepted) (b .selection)))
+  sum-is = rw takenBy-taken (sym (taken-add-up (f .file) (f .bytes) (f .accepted) (b .selection)))
 
   -- the bound of the first t peptides of a path
   first-bound : (c : CurveCall f) (t : ℕ) → t ≤ length (c .path) → Agree f (selected (b .selection)) (among (take t (c .path)))
@@ -166,7 +166,7 @@ module _ (f : AcceptedFile) (b : BoundCall f) where
 
 no-more : (f : AcceptedFile) (selection bytes : List ℕ) (A : Peptides) → Admissible (peptidesIn f) (rangesIn f) A
     → card (peptidesIn f) (λ p. A p && selected selection p) ≤ takenSum (peptidesIn f) (rangesIn f) (selected selection) bytes
-no-more f selection bytes A a = named-most (peptidesIn f) (rangesIn f) (selected selection) A bytes (respects-facts (peptidesIn f) (rangesIn f) A a)
+no-more f selection bytes A a = takenBy-most (peptidesIn f) (rangesIn f) (selected selection) A bytes (respects-facts (peptidesIn f) (rangesIn f) A a)
 
 pub demand-two : DemandTwo
 demand-two =

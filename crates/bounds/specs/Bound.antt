@@ -39,14 +39,14 @@ unfoldable pub takenBytes : ℕ → List Range → Peptides → List ℕ
 takenBytes m R S = map (λ r. cond (isTaken m R S r) 1 0) R
 
 -- the ranges whose byte is 1, the bytes in file order
-unfoldable pub named : List ℕ → List Range → List Range
-named [] R = []
-named (b ∷ bytes) [] = []
-named (b ∷ bytes) (r ∷ R) = cond (eqb b 1) (r ∷ named bytes R) (named bytes R)
+unfoldable pub takenBy : List ℕ → List Range → List Range
+takenBy [] R = []
+takenBy (b ∷ bytes) [] = []
+takenBy (b ∷ bytes) (r ∷ R) = cond (eqb b 1) (r ∷ takenBy bytes R) (takenBy bytes R)
 
 -- the z of the ranges whose byte is 1, plus the selected peptides in none of them
 unfoldable pub takenSum : ℕ → List Range → Peptides → List ℕ → ℕ
-takenSum m R S bytes = sumOver (λ r. r .z) (named bytes R) + card m (λ p. outside (named bytes R) p && S p)
+takenSum m R S bytes = sumOver (λ r. r .z) (takenBy bytes R) + card m (λ p. outside (takenBy bytes R) p && S p)
 
 -- A is admissible: it has at most z peptides in each range; exactly z is allowed
 abbrev pub Admissible : ℕ → List Range → Peptides → Type 0

@@ -22,7 +22,7 @@ use Rattle.bounds.specs.Bound.{Admissible, IsLargest}
 use Rattle.bounds.specs.Curves.{among, entry, curveValues, markAt, curveMarks}
 use Rattle.bounds.specs.Paths.{Distinct, marked}
 use Rattle.bounds.specs.Calls.{IsPath}
-use Rattle.bounds.proofs.Basics.Members.{test, bit}
+use Rattle.bounds.proofs.Basics.Members.{test, bit, bit-few}
 use Rattle.bounds.proofs.Basics.Counting.{card-same, adding, count-same}
 use Rattle.bounds.proofs.Theory.Greedy.{respects-facts, respects-holds, greedy}
 use Rattle.bounds.proofs.Theory.Formula.{formula3}
@@ -108,13 +108,9 @@ module _ {F : Family} {path : List ℕ} (well : WellFormed F) (is : Distinct (F 
         admissible = respects-holds m R set (λ r i. omega (arith, count-same m set walked r (λ p l u k. marked-same t h p), respects r i));
         many = card-same m set walked (λ p l u. marked-same t h p) ∙ path-bound lam (take t path) ∙ sym here;
         largest = rw here (formula3 lam (among (take t path)));
-        mark = λ l. rw (mark-bit t l) (bit-most (not (stops well is t)));
+        mark = λ l. rw (mark-bit t l) (bit-few (not (stops well is t)));
         next = λ l. omega (arith, here, value-at F path (t + 1) (omega arith), mark-bit t l, ap (entry F path) (add-one t), entry-next well is t l);
       }
-    where
-      bit-most : (b : Bool) → bit b ≤ 1
-      bit-most true = omega arith
-      bit-most false = omega arith
 
 -- The theorem.
 pub curve-theorem : (s : List ℕ) → IsBytes s → Accepted s → (path : List ℕ) → IsPath (familyOf s .peptides) path

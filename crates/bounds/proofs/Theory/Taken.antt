@@ -8,7 +8,7 @@ use native.Mathlib.Omega.{arith}
 use lib.Dec.{eqb}
 use borrow.Author.Tests.{ltb-true, lt-ltb}
 use Rattle.bounds.specs.Ranges.{Range, Peptides, has, card, count, some, those, sumOver, inside, outside, In}
-use Rattle.bounds.specs.Bound.{total, bound, full, isTaken, named, takenSum}
+use Rattle.bounds.specs.Bound.{total, bound, full, isTaken, takenBy, takenSum}
 use Rattle.bounds.proofs.Basics.Members.{test, le-or-lt, clash, and-l, and-r, and-both, ands, some-in, nowhere-facts, nowhere-holds, in-those, those-in, sum-mono, sum-same, eqb-bit}
 use Rattle.bounds.proofs.Basics.Counting.{Subset, card-mono, adding, adding-either, count-mono, count-adding, Apart, cover, partition}
 use Rattle.bounds.proofs.Basics.Nesting.{Inside, inside-facts, inside-holds, inner, inner-facts, Below, inward, widest}
@@ -139,31 +139,31 @@ taken-bound {m} {R} l S =
 
 -- The ranges that bytes name.
 
-named-in : (bytes : List ℕ) (R : List Range) (r : Range) → In r (named bytes R) → In r R
-unfolding named
-named-in [] R r i = absurd i
-named-in (b ∷ bytes) [] r i = absurd i
-named-in (b ∷ bytes) (q ∷ R) r i = go (eqb b 1) i (named-in bytes R r)
+takenBy-in : (bytes : List ℕ) (R : List Range) (r : Range) → In r (takenBy bytes R) → In r R
+unfolding takenBy
+takenBy-in [] R r i = absurd i
+takenBy-in (b ∷ bytes) [] r i = absurd i
+takenBy-in (b ∷ bytes) (q ∷ R) r i = go (eqb b 1) i (takenBy-in bytes R r)
   where
-    go : (t : Bool) → In r (cond t (q ∷ named bytes R) (named bytes R)) → (In r (named bytes R) → In r R) → In r (q ∷ R)
+    go : (t : Bool) → In r (cond t (q ∷ takenBy bytes R) (takenBy bytes R)) → (In r (takenBy bytes R) → In r R) → In r (q ∷ R)
     go true (inl e) f = inl e
     go true (inr j) f = inr (f j)
     go false j f = inr (f j)
 
 -- bytes from a test name those that pass it, whatever stands after them
-pub named-those : (t : Range → Bool) (R : List Range) (rest : List ℕ) → named (map (λ r. cond (t r) 1 0) R ++ rest) R ≡ those t R
-unfolding named those
-named-those t [] [] = refl
-named-those t [] (b ∷ rest) = refl
-named-those t (r ∷ R) rest = rw (eqb-bit (t r), named-those t R rest)
+pub takenBy-those : (t : Range → Bool) (R : List Range) (rest : List ℕ) → takenBy (map (λ r. cond (t r) 1 0) R ++ rest) R ≡ those t R
+unfolding takenBy those
+takenBy-those t [] [] = refl
+takenBy-those t [] (b ∷ rest) = refl
+takenBy-those t (r ∷ R) rest = rw (eqb-bit (t r), takenBy-those t R rest)
 
 -- Whatever ranges bytes name, no admissible set has more of the selection than their z, plus the selected peptides in none of them.
-pub named-most : (m : ℕ) (R : List Range) (S A : Peptides) (bytes : List ℕ) → Respects m R A → card m (λ p. A p && S p) ≤ takenSum m R S bytes
+pub takenBy-most : (m : ℕ) (R : List Range) (S A : Peptides) (bytes : List ℕ) → Respects m R A → card m (λ p. A p && S p) ≤ takenSum m R S bytes
 unfolding takenSum
-named-most m R S A bytes h =
+takenBy-most m R S A bytes h =
     let both : Peptides = λ p. A p && S p in
-    let Q = named bytes R in
+    let Q = takenBy bytes R in
     let few = sum-mono (count m both) (λ r. r .z) Q
-    (λ r i. omega (arith, h r (named-in bytes R r i), count-mono m both A r (λ p l u k e. search ands))) in
+    (λ r i. omega (arith, h r (takenBy-in bytes R r i), count-mono m both A r (λ p l u k e. search ands))) in
     let free = card-mono m (λ p. outside Q p && both p) (λ p. outside Q p && S p) (λ p l u e. search ands) in
     omega (arith, cover m both Q)
