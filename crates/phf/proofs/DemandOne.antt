@@ -45,8 +45,8 @@ use Rattle.phf.specs.declared.PhfCutting.{PhfCutting}
 use Rattle.phf.specs.declared.PhfReduced.{PhfReduced}
 use Rattle.phf.specs.declared.PhfCompared.{PhfCompared}
 use Rattle.phf.proofs.FieldLaws.{part-fields, no-part-fields}
-use Rattle.phf.proofs.Obeying.{first-is, none-holds, Lent, nothing-lent, lent-too, lent-one, made-obeys, remade-obeys, value-none, value-some, values-done, obeys-on-path}
-use Rattle.phf.proofs.LibraryAnswers.{checkedOf, boundedOf, reducedOf, comparedOf, checked-again, bounded-again, reduced-again, compared-again, yes-or-no, curve-refuses, curve-does, cut-refuses, cut-does}
+use Rattle.phf.proofs.Obeying.{first-is, none-is, Lent, nothing-lent, lent-too, lent-one, made-obeys, remade-obeys, value-none, value-some, values-done, obeys-on-path}
+use Rattle.phf.proofs.LibraryAnswers.{checkedOf, boundedOf, reducedOf, comparedOf, checked-remade, bounded-remade, reduced-remade, compared-remade, yes-or-no, curve-refuses, curve-does, cut-refuses, cut-does}
 
 pub record DemandOne : Type 0 where
   -- The first cause of a list has the number n exactly when a cause with this number holds and none before it. In a list that has no
@@ -185,7 +185,7 @@ unfolding headerCauses familyCauses fileCauses parentsCauses causesWithRoom path
 demand-one =
     record {
       first-cause = first-is;
-      no-cause = none-holds;
+      no-cause = none-is;
       check-tries = λ file. refl;
       parents-tries = λ file out. refl;
       bound-tries = λ file selection out. refl;
@@ -199,14 +199,14 @@ demand-one =
       phf-cut = λ file path a b r h. phf-cut-says _ path _ r h;
       phf-reduce = λ file out new r h w. made-obeys (reduceCauses file out) _ reducedFields r (new ∷ []) _ _ h (lent-one _ _ _ _ w);
       phf-same = λ first second r h. made-obeys (compareCauses first second) _ comparedFields r [] [] [] h (nothing-lent _);
-      check = λ file r h. remade-obeys (fileCauses file) _ report checkedOf checked-again r [] [] [] h (nothing-lent (fileCauses file));
-      parents = λ file out new r h w. remade-obeys (parentsCauses file out) _ report checkedOf checked-again r (new ∷ []) _ _ h (lent-one _ _ _ _ w);
-      bound = λ file selection taken new r h w. remade-obeys (selectionCauses file selection taken) _ reportBound boundedOf bounded-again r (new ∷ []) _ _ h (lent-one _ _ _ _ w);
-      inside-totals = λ file selection out new r h w. remade-obeys (selectionCauses file selection out) _ reportBound boundedOf bounded-again r (new ∷ []) _ _ h (lent-one _ _ _ _ w);
+      check = λ file r h. remade-obeys (fileCauses file) _ report checkedOf checked-remade r [] [] [] h (nothing-lent (fileCauses file));
+      parents = λ file out new r h w. remade-obeys (parentsCauses file out) _ report checkedOf checked-remade r (new ∷ []) _ _ h (lent-one _ _ _ _ w);
+      bound = λ file selection taken new r h w. remade-obeys (selectionCauses file selection taken) _ reportBound boundedOf bounded-remade r (new ∷ []) _ _ h (lent-one _ _ _ _ w);
+      inside-totals = λ file selection out new r h w. remade-obeys (selectionCauses file selection out) _ reportBound boundedOf bounded-remade r (new ∷ []) _ _ h (lent-one _ _ _ _ w);
       curve = λ file path values marks newValues newMarks r h d v w. obeys-on-path _ path [] _ h r _ _ _ _ _ (curve-refuses _ path r h) (curve-does _ path r h d) (curve-lent file path values marks newValues newMarks v w);
       cut = λ file path a b r h. obeys-on-path _ path _ _ h r _ _ [] [] [] (cut-refuses _ path _ r h) (cut-does _ path _ r h) (nothing-lent _);
-      reduce = λ file out new r h w. remade-obeys (reduceCauses file out) _ reportReduced reducedOf reduced-again r (new ∷ []) _ _ h (lent-one _ _ _ _ w);
-      same = λ first second r h. rw (← yes-or-no (sameList (reducedFile first) (reducedFile second))) (remade-obeys (compareCauses first second) _ reportCompared comparedOf compared-again r [] [] [] h (nothing-lent _));
+      reduce = λ file out new r h w. remade-obeys (reduceCauses file out) _ reportReduced reducedOf reduced-remade r (new ∷ []) _ _ h (lent-one _ _ _ _ w);
+      same = λ first second r h. rw (← yes-or-no (sameList (reducedFile first) (reducedFile second))) (remade-obeys (compareCauses first second) _ reportCompared comparedOf compared-remade r [] [] [] h (nothing-lent _));
       regions = λ place fileAt part file h. rw (h .bytes) (part-empty file);
       phf-regions = λ file r h. rw h (length-empty file);
     }

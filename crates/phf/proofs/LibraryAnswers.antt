@@ -45,26 +45,26 @@ unfoldable pub comparedOf : ℕ → List ℕ → Compared
 comparedOf n [] = compared.Refused n
 comparedOf n (v ∷ vs) = cond (eqb v 1) compared.Same compared.Different
 
-pub checked-again : (r : Checked) → r ≡ checkedOf (report r .number) (report r .values)
+pub checked-remade : (r : Checked) → r ≡ checkedOf (report r .number) (report r .values)
 unfolding report checkedOf
-checked-again (told.Family m n k) = refl
-checked-again (told.Refused n) = refl
+checked-remade (told.Family m n k) = refl
+checked-remade (told.Refused n) = refl
 
-pub bounded-again : (r : Bounded) → r ≡ boundedOf (reportBound r .number) (reportBound r .values)
+pub bounded-remade : (r : Bounded) → r ≡ boundedOf (reportBound r .number) (reportBound r .values)
 unfolding reportBound boundedOf
-bounded-again (bounded.Bound v) = refl
-bounded-again (bounded.Refused n) = refl
+bounded-remade (bounded.Bound v) = refl
+bounded-remade (bounded.Refused n) = refl
 
-pub reduced-again : (r : ReducedFile) → r ≡ reducedOf (reportReduced r .number) (reportReduced r .values)
+pub reduced-remade : (r : ReducedFile) → r ≡ reducedOf (reportReduced r .number) (reportReduced r .values)
 unfolding reportReduced reducedOf
-reduced-again (made.Written l k) = refl
-reduced-again (made.Refused n) = refl
+reduced-remade (made.Written l k) = refl
+reduced-remade (made.Refused n) = refl
 
-pub compared-again : (r : Compared) → r ≡ comparedOf (reportCompared r .number) (reportCompared r .values)
+pub compared-remade : (r : Compared) → r ≡ comparedOf (reportCompared r .number) (reportCompared r .values)
 unfolding reportCompared comparedOf
-compared-again compared.Same = refl
-compared-again compared.Different = refl
-compared-again (compared.Refused n) = refl
+compared-remade compared.Same = refl
+compared-remade compared.Different = refl
+compared-remade (compared.Refused n) = refl
 
 pub yes-or-no : (b : Bool) → comparedOf 0 (cond b 1 0 ∷ []) ≡ cond b compared.Same compared.Different
 unfolding comparedOf

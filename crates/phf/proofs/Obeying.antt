@@ -27,8 +27,8 @@ clear-none : (cs : List Cause) → Numbered cs → firstCause cs ≡ 0 → NoneH
 clear-none [] n h = tt
 clear-none (c ∷ cs) n h = let a = head-clear c cs (n .0) h in (a .0, clear-none cs (n .1) (a .1))
 
-pub none-holds : (cs : List Cause) → Numbered cs → (firstCause cs ≡ 0) ↔ NoneHolds cs
-none-holds cs n = (clear-none cs n, none-clear cs)
+pub none-is : (cs : List Cause) → Numbered cs → (firstCause cs ≡ 0) ↔ NoneHolds cs
+none-is cs n = (clear-none cs n, none-clear cs)
 
 first-found : (cs : List Cause) → (firstCause cs ≡ 0 → ⊥) → FirstHolds cs (firstCause cs)
 first-found [] h = absurd (h (unfold firstCause in refl))

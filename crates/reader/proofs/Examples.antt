@@ -51,8 +51,8 @@ pub overfull : Family
 overfull = record { peptides = 3; lengths = 1 ∷ 1 ∷ 1 ∷ []; regions = tabulate 6 (λ k. range 1 (6 - k) 1) }
 
 -- one leaf with all peptides
-pub oneLeaf : ℕ → Family
-oneLeaf m = record { peptides = m; lengths = m ∷ []; regions = [] }
+pub singleLeaf : ℕ → Family
+singleLeaf m = record { peptides = m; lengths = m ∷ []; regions = [] }
 
 -- the number that the check gives the file of a family; naming it opens every definition on the way
 pub number : Family → ℕ
@@ -86,15 +86,15 @@ eight-parents = refl
 
 -- The edges: each family on the line is accepted, and one step beyond it gives its number.
 pub record Edges : Type 0 where
-  pub most-peptides : number (oneLeaf 4096) ≡ 0
-  pub too-many-peptides : number (oneLeaf 4097) ≡ 2
+  pub most-peptides : number (singleLeaf 4096) ≡ 0
+  pub too-many-peptides : number (singleLeaf 4097) ≡ 2
   pub most-regions : number comb ≡ 0
   pub too-many-regions : number overfull ≡ 4
   pub deepest : number (nest 64) ≡ 0
   pub too-deep : number (nest 65) ≡ 10
 
 pub edges : Edges
-unfolding number nest comb overfull oneLeaf
+unfolding number nest comb overfull singleLeaf
 edges =
     record {
       most-peptides = refl;

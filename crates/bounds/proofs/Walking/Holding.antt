@@ -13,7 +13,7 @@ use borrow.Author.Tests.{leb-true, le-leb, lt-leb, eqb-true, eq-eqb}
 use Rattle.reader.specs.Family.{Family, regionCount, region, leafOf}
 use Rattle.reader.specs.WellFormed.{Ordered, NestedBelow, IsParent}
 use Rattle.reader.proofs.Below.{some-at, none-at, none-below}
-use Rattle.bounds.specs.Private.Walks.{between, holdsLeaf, LastAmong, LastHolding, Painted, crowded, OneLess, MarkedNext}
+use Rattle.bounds.specs.Private.Walks.{isBetween, holdsLeaf, LastAmong, LastHolding, Painted, crowded, OneLess, MarkedNext}
 use Rattle.bounds.proofs.Basics.Members.{test, clash, refuted, and-l, and-r, and-both, le-or-lt, bit}
 
 -- Numbers up to and from a number.
@@ -25,14 +25,14 @@ at-or-beside i c n =
 
 module _ (F : Family) (leaf : ℕ) where
   pub holds-facts : (k : ℕ) → holdsLeaf F leaf k ≡ true → (region F k .first ≤ leaf) × (leaf ≤ region F k .last)
-  unfolding between
+  unfolding isBetween
   holds-facts k h = (
     leb-true (region F k .first) leaf (and-l (leb (region F k .first) leaf) (leb leaf (region F k .last)) h),
     leb-true leaf (region F k .last) (and-r (leb (region F k .first) leaf) (leb leaf (region F k .last)) h),
   )
 
   pub from-holds : (k : ℕ) → region F k .first ≤ leaf → leaf ≤ region F k .last → holdsLeaf F leaf k ≡ true
-  unfolding between
+  unfolding isBetween
   from-holds k a b =
       and-both (leb (region F k .first) leaf) (leb leaf (region F k .last)) (le-leb (region F k .first) leaf a) (le-leb leaf (region F k .last) b)
 
@@ -89,7 +89,7 @@ module _ (T : List ℕ) (first number : ℕ) where
       }
 
   pub paint-ends : (last j : ℕ) (D : List ℕ) → j ≡ last + 1 → PaintedBefore T first number j D → Painted T first last number D
-  unfolding between
+  unfolding isBetween
   paint-ends last j D end p =
       record {
         same = p .same;

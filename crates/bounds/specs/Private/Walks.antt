@@ -41,11 +41,11 @@ Admission file path P (Repeated p) = (firstCause (inputCauses file path) ≡ 13)
 -- The regions that hold a leaf.
 
 -- a number is one of those from the first to the last
-unfoldable pub between : ℕ → ℕ → ℕ → Bool
-between first last n = leb first n && leb n last
+unfoldable pub isBetween : ℕ → ℕ → ℕ → Bool
+isBetween first last n = leb first n && leb n last
 
 abbrev pub holdsLeaf : Family → ℕ → ℕ → Bool
-holdsLeaf F leaf k = between (region F k .first) (region F k .last) leaf
+holdsLeaf F leaf k = isBetween (region F k .first) (region F k .last) leaf
 
 -- c is the number, counted from 1, of the last of the first n regions that holds the leaf, or 0 where none does
 pub record LastAmong (F : Family) (n leaf c : ℕ) : Type 0 where
@@ -63,7 +63,7 @@ InnermostAtLeaves F T = (leaf : ℕ) → LastHolding F leaf (getD T leaf 0)
 -- the list D is T with a number written from a first place to a last one
 pub record Painted (T : List ℕ) (first last number : ℕ) (D : List ℕ) : Type 0 where
   pub same : length D ≡ length T
-  pub written : (j : ℕ) → getD D j 0 ≡ cond (between first last j) number (getD T j 0)
+  pub written : (j : ℕ) → getD D j 0 ≡ cond (isBetween first last j) number (getD T j 0)
 
 -- The marks that each region can still take: its z less the marked peptides that it has.
 

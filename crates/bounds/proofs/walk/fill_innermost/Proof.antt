@@ -7,7 +7,7 @@ use lib.ListN.{length, getD}
 use denote.Ref.{now}
 use Rattle.reader.specs.Family.{familyOf, leaves, region, regionCount}
 use Rattle.reader.proofs.Parsed.{held-first, held-last}
-use Rattle.bounds.specs.Private.Walks.{between, LastAmong}
+use Rattle.bounds.specs.Private.Walks.{isBetween, LastAmong}
 use Rattle.bounds.proofs.Walking.Holding.{none-among, one-among}
 use borrow.Author.Needs.{needs}
 use Rattle.bounds.proofs.walk.fill_innermost.Statement.{statement}
@@ -57,7 +57,7 @@ loop-again c =
       omega arith,
       inv .1,
       painted .same ∙ inv .2,
-      λ leaf. one-among _ k leaf _ _ (inv .3 leaf) (painted .written leaf ∙ ap₂ (λ (a b : ℕ). cond (between a b leaf) (k + 1) (getD (c .before .before .before .before .before .before .before .before .loop .innermost) leaf 0)) (held-first _ _ r) (held-last _ _ r)),
+      λ leaf. one-among _ k leaf _ _ (inv .3 leaf) (painted .written leaf ∙ ap₂ (λ (a b : ℕ). cond (isBetween a b leaf) (k + 1) (getD (c .before .before .before .before .before .before .before .before .loop .innermost) leaf 0)) (held-first _ _ r) (held-last _ _ r)),
     )
 
 same-length : tie.Need-same-length Inv-loop μ-loop
