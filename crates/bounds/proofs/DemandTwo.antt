@@ -17,20 +17,26 @@ use Rattle.reader.proofs.First.{answers, writes}
 use Rattle.bounds.specs.Ranges.{Range, Peptides, card, rangesOf, those}
 use Rattle.bounds.specs.Bound.{Admissible, IsLargest, isTaken, takenBytes, takenBy, takenSum}
 use Rattle.bounds.specs.Selections.{selected, boundOf, takenOf}
-use Rattle.bounds.specs.Curves.{among, entry, curveValues, markAt, curveMarks}
+use Rattle.bounds.specs.Curves.{among, entry, curveValues, markAt, curveMarks, cutOf, IsCut}
 use Rattle.bounds.specs.Paths.{marked}
 use Rattle.bounds.specs.declared.Bounded.{Bounded}
 use Rattle.bounds.specs.declared.Bounded.the-variants as bounded
 use Rattle.bounds.specs.declared.Curved.{Curved}
 use Rattle.bounds.specs.declared.Curved.the-variants as curved
-use Rattle.bounds.specs.Calls.{reportBound, declinedCurve, selectionCauses, curveCauses, BoundAnswers, CurveDeclines}
-use Rattle.bounds.specs.AcceptedCalls.{CurveCall, BoundCall}
+use Rattle.bounds.specs.declared.CutFound.{CutFound}
+use Rattle.bounds.specs.declared.CutFound.the-variants as cutFound
+use Rattle.bounds.specs.Calls.{reportBound, declinedCurve, reportCut, selectionCauses, curveCauses, cutCauses, BoundAnswers, CurveDeclines, CutAnswers}
+use Rattle.bounds.specs.AcceptedCalls.{CurveCall, CutCall, BoundCall}
 use Rattle.bounds.proofs.Theory.Greedy.{respects-facts}
 use Rattle.bounds.proofs.Theory.Formula.{bound-same}
 use Rattle.bounds.proofs.Theory.Taken.{takenBy-those, takenBy-most}
 use Rattle.bounds.proofs.Theory.Family.{accepted-laminar}
 use Rattle.bounds.proofs.Calls.SelectionCalls.{selection-clear}
-use Rattle.bounds.proofs.Calls.Answering.{curve-clear}
+use Rattle.bounds.proofs.Calls.Answering.{curve-clear, cut-clear}
+use Rattle.reader.proofs.Accepting.{well-formed}
+use Rattle.bounds.proofs.Calls.PathLaws.{accepted-path}
+use Rattle.bounds.proofs.Theory.Marks.{entry-start}
+use Rattle.bounds.proofs.Theory.CutTheorem.{cut-theorem}
 use Rattle.bounds.proofs.Theory.Theorems.{bound-is-largest, taken-add-up}
 use Rattle.bounds.proofs.Theory.CurveTheorem.{CurveAt, value-at, curve-theorem}
 
@@ -61,6 +67,10 @@ pub record DemandTwo : Type 0 where
   -- of as many peptides as value t says.
   pub marked-many : (f : AcceptedFile) (c : CurveCall f) (t : ℕ) → t ≤ length (c .path)
       → card (peptidesIn f) (marked (c .path) (c .marks) t) ≡ getD (c .values) t 0
+  -- Value 0 is 0, so an empty path has the one value 0.
+  pub starts-at-zero : (f : AcceptedFile) (c : CurveCall f) → getD (c .values) 0 0 ≡ 0
+  -- `cut` answers the largest t from 0 to T at which entry t times b is at most a times t.
+  pub cut-largest : (f : AcceptedFile) (c : CutCall f) → (t : ℕ) × (c .answer ≡ cutFound.At t) × IsCut (familyOf (f .file)) (c .path) (c .a) (c .b) t
   -- For an accepted family, a selection and a list with room, `bound` answers a bound,
   pub bound-answers : (f : AcceptedFile) (b : BoundCall f) → (v : ℕ) × (b .answer ≡ bounded.Bound v)
   -- which is the largest count of the selection in any admissible set.
@@ -107,7 +117,7 @@ module _ (f : AcceptedFile) (c : CurveCall f) where
       go (curved.Repeated p) d = absurd (clash (sym d) (not-fails _ (eq-eqb _ 0 clear)))
 
   -- what it leaves, by places
-  value-left : (t : ℕ) → t ≤ length path → getD (c .values) t 0 ≡ getD (curveValues F path) t 0
+  pub value-left : (t : ℕ) → t ≤ length path → getD (c .values) t 0 ≡ getD (curveValues F path) t 0
   unfolding curveValues
   value-left t h =
       ap (λ (l : List ℕ). getD l t 0) (c .writes-values ∙ writes _ clear (curveValues F path) (c .old-values))
@@ -124,6 +134,27 @@ module _ (f : AcceptedFile) (c : CurveCall f) where
 
   curve-at : (t : ℕ) → t ≤ length path → CurveAt F path t
   curve-at = curve-theorem (f .file) (f .bytes) (f .accepted) path (c .is-path)
+
+-- A call of `cut`.
+
+module _ (f : AcceptedFile) (c : CutCall f) where
+  abbrev theCut : ℕ
+  theCut = cutOf (familyOf (f .file)) (c .path) (c .a) (c .b)
+
+  no-cause : firstCause (cutCauses (f .file) (c .path) (c .a) (c .b)) ≡ 0
+  no-cause = cut-clear (f .file) (c .path) (c .a) (c .b) (f .accepted) (c .is-path) (c .is-fraction)
+
+  answers-cut : c .answer ≡ cutFound.At theCut
+  unfolding reportCut
+  answers-cut = go (c .answer) (c .answers)
+    where
+      said : (r : CutFound) → CutAnswers (f .file) (c .path) (c .a) (c .b) r → reportCut r .values ≡ theCut ∷ []
+      said r p = p .values (λ e. omega (arith, no-cause)) ∙ ap (λ (r : Report). r .values) (answers _ no-cause (theCut ∷ []))
+
+      go : (r : CutFound) → CutAnswers (f .file) (c .path) (c .a) (c .b) r → r ≡ cutFound.At theCut
+      go (cutFound.At t) p = cc (said (cutFound.At t) p)
+      go (cutFound.Refused n) p = let e = ap length (said (cutFound.Refused n) p) in absurd (omega arith)
+      go (cutFound.Repeated t) p = absurd (omega (arith, p .number, no-cause))
 
 -- A call of `bound`.
 
@@ -179,6 +210,11 @@ demand-two =
           omega (arith, value-left f c t (omega arith), value-left f c (t + 1) (omega arith), mark-left f c t h, curve-at f c t (omega arith) .next h);
       marked-admissible = λ f c t h. rw (marked-left f c t h) (curve-at f c t h .admissible);
       marked-many = λ f c t h. rw (marked-left f c t h, value-left f c t h) (curve-at f c t h .many);
+      starts-at-zero =
+          λ f c.
+          value-left f c 0 (omega arith) ∙ value-at (familyOf (f .file)) (c .path) 0 (omega arith)
+          ∙ entry-start (well-formed (f .file) (f .bytes) (f .accepted)) (accepted-path (familyOf (f .file) .peptides) (c .path) (c .is-path));
+      cut-largest = λ f c. (theCut f c, answers-cut f c, cut-theorem (f .file) (f .bytes) (f .accepted) (c .path) (c .is-path) (c .a) (c .b));
       bound-answers = λ f b. (theBound f b, answers-bound f b);
       bound-largest = λ f b n e. rw (answered f b n e) (bound-is-largest (f .file) (f .bytes) (f .accepted) (b .selection));
       value-is-bound = λ f c b t h same. answers-bound f b ∙ ap bounded.Bound (first-bound f b c t h same);

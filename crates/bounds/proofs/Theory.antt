@@ -9,3 +9,4 @@ pub mod Family
 pub mod Theorems
 pub mod Marks
 pub mod CurveTheorem
+pub mod CutTheorem

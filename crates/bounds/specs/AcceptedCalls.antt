@@ -1,5 +1,5 @@
--- Calls of `curve` and `bound` that have nothing to decline: an accepted file, a path or a selection, and room for what is written.
--- Of the answer and of what the call leaves in the lent lists they hold the promises, as the contracts have them.
+-- Calls of `curve`, `cut` and `bound` that have nothing to decline: an accepted file, a path or a selection, and room for what is
+-- written. Of the answer and of what the call leaves in the lent lists they hold the promises of the contracts that the theorem needs.
 use Prim.Native.Nat.{ℕ, _+_, _≤_}
 use mathlib.Core.Bool.{false}
 use mathlib.Core.List.{List}
@@ -8,9 +8,11 @@ use lib.ListN.{length}
 use Rattle.reader.specs.Family.{familyOf, regionCount}
 use Rattle.reader.specs.Causes.{AcceptedFile}
 use Rattle.bounds.specs.Selections.{cause14}
+use Rattle.bounds.specs.Curves.{cause15}
 use Rattle.bounds.specs.declared.Bounded.{Bounded}
 use Rattle.bounds.specs.declared.Curved.{Curved}
-use Rattle.bounds.specs.Calls.{IsPath, BoundAnswers, TakenWrites, CurveValuesWrites, CurveMarksWrites, CurveDeclines}
+use Rattle.bounds.specs.declared.CutFound.{CutFound}
+use Rattle.bounds.specs.Calls.{IsPath, BoundAnswers, TakenWrites, CurveValuesWrites, CurveMarksWrites, CurveDeclines, CutAnswers}
 
 -- a call of `curve`
 pub record CurveCall (f : AcceptedFile) : Type 0 where
@@ -29,6 +31,18 @@ pub record CurveCall (f : AcceptedFile) : Type 0 where
   pub declines : CurveDeclines (f .file) path old-values old-marks answer
   pub writes-values : CurveValuesWrites (f .file) path old-values old-marks values
   pub writes-marks : CurveMarksWrites (f .file) path old-values old-marks marks
+
+-- a call of `cut`
+pub record CutCall (f : AcceptedFile) : Type 0 where
+  pub path : List ℕ
+  pub is-path : IsPath (familyOf (f .file) .peptides) path
+  -- the fraction a / b
+  pub a : ℕ
+  pub b : ℕ
+  pub is-fraction : cause15 a b ≡ false
+  -- its answer, and its promise
+  pub answer : CutFound
+  pub answers : CutAnswers (f .file) path a b answer
 
 -- a call of `bound`
 pub record BoundCall (f : AcceptedFile) : Type 0 where

@@ -1,5 +1,5 @@
 -- A path of different peptides, its curve and marks, and the cut.
-use Prim.Native.Nat.{ℕ, zero, suc, _+_, _-_, _*_}
+use Prim.Native.Nat.{ℕ, zero, suc, _+_, _-_, _*_, _≤_}
 use mathlib.Core.Bool.{Bool, cond, _||_}
 use mathlib.Core.List.{List}
 use lib.ListN.{length, getD, take}
@@ -37,6 +37,12 @@ largestUpTo (suc n) p = cond (p (suc n)) (suc n) (largestUpTo n p)
 -- the cut at q = a / b: the largest t at which entry t times b is at most a times t (it is at t = 0)
 unfoldable pub cutOf : Family → List ℕ → ℕ → ℕ → ℕ
 cutOf F path a b = largestUpTo (length path) (λ t. leb (entry F path t * b) (a * t))
+
+-- t is the cut: the largest number from 0 to T that passes; equal passes
+pub record IsCut (F : Family) (path : List ℕ) (a b t : ℕ) : Type 0 where
+  pub most : t ≤ length path
+  pub passes : entry F path t * b ≤ a * t
+  pub largest : (u : ℕ) → u ≤ length path → entry F path u * b ≤ a * u → u ≤ t
 
 -- path longer than m
 unfoldable pub cause11 : ℕ → List ℕ → Bool

@@ -1,9 +1,8 @@
--- The buffers of the program: how much of a file is read, and what of it counts.
+-- The buffers of the program: how much of each file is read, and how long the text can be.
 use Prim.Native.Nat.{ℕ, _+_, _*_}
 use mathlib.Core.Path.{_≡_}
 use mathlib.Core.List.{List}
 use lib.ListN.{length}
-use lib.IntN.{ℤ, pos, negsuc}
 use Rattle.io.specs.Counts.{Counts}
 
 -- the first 57,355 bytes of family.phf are read: one more than the header, 4,096 leaves and 8,191 regions have
@@ -22,8 +21,3 @@ textRoom = 21 + 24 * 4097
 pub record Held (room : ℕ) (buffer : List ℕ) (n : ℕ) : Type 0 where
   pub long : length buffer ≡ room
   pub counts : Counts n buffer
-
--- how many bytes of a file count after a read that brought none: those before it, but none if it failed, which a negative answer says
-unfoldable pub counted : ℕ → ℤ → ℕ
-counted done (pos k) = done
-counted done (negsuc k) = 0

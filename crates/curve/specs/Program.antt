@@ -1,9 +1,8 @@
 -- The program's output, defined from the bytes of the two files.
 use Prim.Native.Nat.{ℕ, _*_, _/_, _%_}
 use mathlib.Core.Bool.{Bool, cond}
-use mathlib.Core.Path.{_≡_}
 use mathlib.Core.List.{List, _∷_, _++_}
-use lib.ListN.{length, take}
+use lib.ListN.{length}
 use lib.Dec.{eqb}
 use Rattle.reader.specs.Lists.{tabulate}
 use Rattle.reader.specs.Bytes.{numberAt}
@@ -34,8 +33,3 @@ textOf number family path =
 -- by the number of the first cause that holds
 unfoldable pub output : List ℕ → List ℕ → List ℕ
 output family bytes = textOf (firstCause (programCauses family bytes)) family (pathOf bytes)
-
--- the first n numbers are the path
-pub record Decoded (bytes numbers : List ℕ) (n : ℕ) : Type 0 where
-  pub count : n ≡ length bytes / 2
-  pub path : take n numbers ≡ pathOf bytes

@@ -4,8 +4,8 @@ ghost use mathlib.Core.Path.{_≡_};
 ghost use Prim.Native.Nat.{_≤_, _/_};
 ghost use lib.ListN.{length};
 ghost use Rattle.io.specs.Counts.{Counts};
-ghost use Rattle.curve.specs.Program.{Decoded};
-ghost use Rattle.curve.specs.Buffers.{familyRoom, pathRoom, Held, counted};
+ghost use Rattle.curve.specs.Private.Reading.{Decoded, counted};
+ghost use Rattle.curve.specs.Buffers.{familyRoom, pathRoom, Held};
 
 // The longest legal family has 16 + 2 * 4,096 + 6 * 8,191 = 57,354 bytes. One more is read, so that a longer file is refused.
 const FAMILY_ROOM: usize = 57355;

@@ -14,7 +14,7 @@ use Rattle.reader.specs.Bytes.{numberAt}
 use Rattle.reader.specs.Family.{familyOf, leaves, regionCount, regionsOffset}
 use Rattle.reader.specs.Causes.{Cause, firstCause, headerCauses, familyCauses, fileCauses, Accepted}
 use Rattle.reader.specs.Nesting as nesting
-use Rattle.reader.specs.Calls.{report, checked, regionPart, CheckAnswers, RegionsGiven, parentsCauses, ParentsAnswers, ParentsWrites}
+use Rattle.reader.specs.Calls.{report, checked, regionPart, CheckAnswers, RegionsGiven, parentsCauses, ParentsAnswers, ParentsWrites, atStart}
 use Rattle.reader.specs.declared.Checked.{Checked}
 use Rattle.reader.specs.declared.Checked.the-variants as told
 use Rattle.reader.proofs.First.{Numbered, none-or-some}
@@ -36,7 +36,7 @@ use Rattle.reduction.specs.declared.Compared.{Compared}
 use Rattle.reduction.specs.declared.Compared.the-variants as compared
 use Rattle.phf.specs.Fields.{valueAt, valueWith, checkedFields, partFields, boundedFields, curvedFields, cuttingFields, reducedFields, comparedFields, CurveAnswer, CutAnswer}
 use Rattle.phf.specs.Calls.{PhfCheckAnswers, PhfRegionsAnswers, PhfBoundAnswers, PhfCurveAnswers, PhfCutAnswers, PhfReduceAnswers, PhfSameAnswers}
-use Rattle.phf.specs.Obeys.{numbers, NoneHolds, FirstHolds, atStart, Obeys, ObeysOnPath}
+use Rattle.phf.specs.Obeys.{numbers, NoneHolds, FirstHolds, Obeys, ObeysOnPath}
 use Rattle.phf.specs.declared.PhfChecked.{PhfChecked}
 use Rattle.phf.specs.declared.PhfPart.{PhfPart}
 use Rattle.phf.specs.declared.PhfBounded.{PhfBounded}

@@ -8,13 +8,13 @@ use native.Mathlib.Omega.{arith}
 use lib.ListN.{length, getD}
 use borrow.Author.Tests.{eq-eqb, ne-eqb}
 use Rattle.reader.specs.Causes.{Cause, firstCause}
-use Rattle.reader.specs.Calls.{Report, answer, written}
+use Rattle.reader.specs.Calls.{Report, answer, written, atStart}
 use Rattle.reader.proofs.Bools.{test}
 use Rattle.reader.proofs.First.{Numbered, first-holds, first-fails, head-clear, answers, declines, writes, leaves-unchanged}
 use Rattle.bounds.specs.Curves.{repeated}
 use Rattle.bounds.specs.Calls.{Answers}
 use Rattle.phf.specs.Fields.{valueAt, valueWith}
-use Rattle.phf.specs.Obeys.{NoneHolds, FirstHolds, atStart, Obeys, ObeysOnPath}
+use Rattle.phf.specs.Obeys.{NoneHolds, FirstHolds, Obeys, ObeysOnPath}
 
 -- The first cause that holds.
 

@@ -4,7 +4,7 @@ use Prim.Native.Nat.{ℕ, _≤_}
 use mathlib.Core.Bool.{true, false}
 use mathlib.Core.List.{List, [], _∷_, _++_, map}
 use mathlib.Core.Path.{_≡_}
-use lib.ListN.{length, drop}
+use lib.ListN.{length}
 use Rattle.reader.specs.Causes.{Cause, firstCause}
 use Rattle.bounds.specs.Curves.{repeated}
 
@@ -16,6 +16,11 @@ abbrev pub NoneHolds : List Cause → Type 0
 NoneHolds [] = Unit {0}
 NoneHolds (c ∷ cs) = (c .holds ≡ false) × NoneHolds cs
 
+-- none of the numbers is 0, which stands for no cause
+abbrev pub NoZero : List ℕ → Type 0
+NoZero [] = Unit {0}
+NoZero (n ∷ ns) = (1 ≤ n) × NoZero ns
+
 -- a cause with number n holds, and none before it
 pub record FirstHolds (cs : List Cause) (n : ℕ) : Type 0 where
   pub earlier : List Cause
@@ -25,10 +30,6 @@ pub record FirstHolds (cs : List Cause) (n : ℕ) : Type 0 where
   pub none-earlier : NoneHolds earlier
   pub holds : first .holds ≡ true
   pub numbered : first .number ≡ n
-
--- new elements at the start of a list, the rest of it unchanged
-abbrev pub atStart : List ℕ → List ℕ → List ℕ
-atStart new old = new ++ drop (length new) old
 
 -- A call with these causes: its answer is its refusal with the number of the first that holds, and its lent lists hold after it what they
 -- held before it; if none holds, the answer and the lists are those of its work.

@@ -22,9 +22,13 @@ pub record Report : Type 0 where
 unfoldable pub answer : List Cause → List ℕ → Report
 answer cs values = cond (eqb (firstCause cs) 0) (record { number = 0; values = values }) (record { number = firstCause cs; values = [] })
 
+-- new elements at the start of a list, the rest of it unchanged
+abbrev pub atStart : List ℕ → List ℕ → List ℕ
+atStart new old = new ++ drop (length new) old
+
 -- It writes the new elements at the start of a lent list if no cause holds; else the list is as it was.
 unfoldable pub written : List Cause → List ℕ → List ℕ → List ℕ
-written cs new old = cond (eqb (firstCause cs) 0) (new ++ drop (length new) old) old
+written cs new old = cond (eqb (firstCause cs) 0) (atStart new old) old
 
 -- the number and the values of each case of `Checked`
 unfoldable pub report : Checked → Report

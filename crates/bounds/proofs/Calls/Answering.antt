@@ -124,6 +124,11 @@ module _ (file path values marks : List ℕ) where
 -- The cut.
 
 module _ (file path : List ℕ) (a b : ℕ) where
+  -- with a path and a fraction no cause holds
+  pub cut-clear : Accepted file → IsPath (familyOf file .peptides) path → cause15 a b ≡ false → firstCause (cutCauses file path a b) ≡ 0
+  unfolding cutCauses
+  cut-clear accepted is fraction = none-holds file path _ (input-path file path accepted ∙ is) fraction
+
   abbrev pub CutDone : Report → Type 0
   CutDone r = Answers (cutCauses file path a b) path (cutOf (familyOf file) path a b ∷ []) r
 

@@ -21,8 +21,7 @@ use Rattle.reader.proofs.First.{head-clear, join-clear, join-holds}
 use Rattle.reader.proofs.Accepting.{well-formed, accepted-header, few-regions, file-numbered}
 use Rattle.bounds.specs.Curves.{cause11, cause12, repeated, cause13}
 use Rattle.bounds.specs.Calls.{pathCauses, inputCauses}
-use Rattle.bounds.specs.Paths.{Distinct}
-use Rattle.bounds.specs.Private.Walks.{numberCause, firstRepeat, Walkable}
+use Rattle.bounds.specs.Private.Walks.{numberCause, firstRepeat, Walkable, Distinct}
 use Rattle.bounds.proofs.Basics.Members.{test, clash, or-r, bit}
 
 -- The first number that passes a test.

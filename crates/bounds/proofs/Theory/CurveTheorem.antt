@@ -20,7 +20,8 @@ use Rattle.reader.proofs.Accepting.{well-formed}
 use Rattle.bounds.specs.Ranges.{Range, Peptides, rangesOf, card}
 use Rattle.bounds.specs.Bound.{Admissible, IsLargest}
 use Rattle.bounds.specs.Curves.{among, entry, curveValues, markAt, curveMarks}
-use Rattle.bounds.specs.Paths.{Distinct, marked}
+use Rattle.bounds.specs.Private.Walks.{Distinct}
+use Rattle.bounds.specs.Paths.{marked}
 use Rattle.bounds.specs.Calls.{IsPath}
 use Rattle.bounds.proofs.Basics.Members.{test, bit, bit-few}
 use Rattle.bounds.proofs.Basics.Counting.{card-same, adding, count-same}

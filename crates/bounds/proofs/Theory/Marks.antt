@@ -13,7 +13,7 @@ use Rattle.reader.specs.Family.{Family}
 use Rattle.reader.specs.WellFormed.{WellFormed}
 use Rattle.bounds.specs.Ranges.{Peptides, rangesOf, In}
 use Rattle.bounds.specs.Curves.{among, entry, markAt}
-use Rattle.bounds.specs.Paths.{Distinct}
+use Rattle.bounds.specs.Private.Walks.{Distinct}
 use Rattle.bounds.proofs.Basics.Members.{test, clash, refuted, bit, place}
 use Rattle.bounds.proofs.Basics.Counting.{none, card-none, adding}
 use Rattle.bounds.proofs.Theory.Greedy.{blocked, afterStep, among-facts, greedy, greedy-snoc, greedy-new}

@@ -11,7 +11,6 @@ use Rattle.reader.specs.Causes.{firstCause}
 use Rattle.reader.specs.WellFormed.{WellFormed, Nested}
 use Rattle.bounds.specs.Curves.{cause11, cause12, repeated}
 use Rattle.bounds.specs.Calls.{inputCauses}
-use Rattle.bounds.specs.Paths.{Distinct}
 use Rattle.bounds.specs.declared.path.Admitted.{Admitted}
 use Rattle.bounds.specs.declared.path.Admitted.the-variants.{Yes, Refused, Repeated}
 
@@ -24,6 +23,12 @@ numberCause m path = cond (cause11 m path) 11 (cond (cause12 m path) 12 0)
 -- the first place, counted from 1, whose peptide stands earlier too; 0 if there is none
 unfoldable pub firstRepeat : List ℕ → ℕ
 firstRepeat path = firstBelow (length path) (λ i. repeated path (i + 1))
+
+-- the path is different peptide numbers, each from 1 to m
+pub record Distinct (m : ℕ) (path : List ℕ) : Type 0 where
+  pub some : (i : ℕ) → i < length path → 1 ≤ getD path i 0
+  pub most : (i : ℕ) → i < length path → getD path i 0 ≤ m
+  pub differ : (i j : ℕ) → i < j → j < length path → getD path i 0 ≡ getD path j 0 → ⊥
 
 -- what a walk goes by: a well-formed family, its parents, and a path of different peptides
 pub record Walkable (F : Family) (path P : List ℕ) : Type 0 where

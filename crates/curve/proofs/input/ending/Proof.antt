@@ -8,7 +8,7 @@ use lib.Signed.{ltZ}
 use mir.Syntax.{w64}
 use mir.ValLaws.{toZ-ofZ}
 use borrow.Author.Tests.{ltb-true}
-use Rattle.curve.specs.Buffers.{counted}
+use Rattle.curve.specs.Private.Reading.{counted}
 use Rattle.curve.proofs.input.ending.Statement.{statement}
 use Rattle.curve.proofs.input.ending.Tie as tie
 

@@ -7,7 +7,7 @@ use lib.ListN.{length}
 use borrow.Rule.Slice.PartMut.{putMid, same-len-mid}
 use denote.Ref.{now}
 use Rattle.io.proofs.Counting.{counts}
-use Rattle.curve.specs.Buffers.{counted}
+use Rattle.curve.specs.Private.Reading.{counted}
 use borrow.Author.Needs.{needs}
 use Rattle.curve.proofs.input.read_all.Statement.{statement}
 use Rattle.curve.proofs.input.read_all.Tie as tie
