@@ -7,7 +7,7 @@ use mathlib.Core.List.{List, [], _∷_}
 use mathlib.Core.Path.{_≡_, refl, sym, ap, _∙_}
 use mathlib.Core.Logic.{⊎-elim}
 use native.Mathlib.Omega.{arith}
-use lib.ListN.{length, take, drop}
+use lib.ListN.{length, getD, take, drop}
 use lib.Seq.{take-at, drop-at}
 use Rattle.reader.specs.Lists.{sameList}
 use Rattle.reader.specs.Bytes.{IsBytes, numberAt}
@@ -21,7 +21,10 @@ use Rattle.reader.proofs.Parsed.{regions-read}
 use Rattle.reader.proofs.Judged.{laid-down}
 use Rattle.reader.proofs.Accepting.{accepted-header}
 use Rattle.bounds.proofs.Basics.Members.{bit}
+use Rattle.bounds.specs.Curves.{curveValues}
+use Rattle.bounds.specs.AcceptedCalls.{CurveCall}
 use Rattle.bounds.proofs.Theory.Family.{accepted-laminar}
+use Rattle.bounds.proofs.DemandTwo.{value-left}
 use Rattle.reduction.specs.Reduction.{reducedFile}
 use Rattle.reduction.specs.Alike.{Alike, SameBounds}
 use Rattle.reduction.specs.declared.ReducedFile.{ReducedFile}
@@ -35,7 +38,7 @@ use Rattle.reduction.proofs.Theory.OneFile.{reduced-accepted, reduced-b
 use Rattle.reduction.proofs.Calls.ReduceCalls.{output-suffices, both-accepted}
 
 -- the answer has the length and the K of the reduced file, which is as many of the first bytes of the output; the rest is unchanged
-pub record AtStart (file out : List ℕ) (r : ReducedFile) (new : List ℕ) : Type 0 where
+pub record WrittenAt (file out : List ℕ) (r : ReducedFile) (new : List ℕ) : Type 0 where
   pub bytes : ℕ
   pub regions : ℕ
   pub counted : r ≡ made.Written bytes regions
@@ -60,6 +63,9 @@ pub record DemandThree : Type 0 where
   -- and exactly when they have the same m and, for every selection, the same bound.
   pub equal-if-same-bounds : (f g : AcceptedFile) → SameBounds (familyOf (f .file)) (familyOf (g .file)) → reducedFile (f .file) ≡ reducedFile (g .file)
   pub same-bounds-if-equal : (f g : AcceptedFile) → reducedFile (f .file) ≡ reducedFile (g .file) → SameBounds (familyOf (f .file)) (familyOf (g .file))
+  -- So `curve` leaves the same values for both, at every t of every path.
+  pub equal-values : (f g : AcceptedFile) (c : CurveCall f) (d : CurveCall g) → reducedFile (f .file) ≡ reducedFile (g .file) → c .path ≡ d .path
+      → (t : ℕ) → t ≤ length (c .path) → getD (c .values) t 0 ≡ getD (d .values) t 0
   -- Every file with this m and these curves has at least as many regions, and is at least as long.
   pub fewest-regions : (f g : AcceptedFile) → Alike (familyOf (f .file)) (familyOf (g .file))
       → regionCount (familyOf (reducedFile (f .file))) ≤ regionCount (familyOf (g .file))
@@ -67,7 +73,7 @@ pub record DemandThree : Type 0 where
   -- It is no longer than the file, so an output as long as the file suffices.
   pub fits : (f : AcceptedFile) → length (reducedFile (f .file)) ≤ length (f .file)
   -- By its two promises `reduce` writes this file,
-  pub reduces : (f : AcceptedFile) (out new : List ℕ) (r : ReducedFile) → length (f .file) ≤ length out → ReduceAnswers (f .file) out r → ReduceWrites (f .file) out new → AtStart (f .file) out r new
+  pub reduces : (f : AcceptedFile) (out new : List ℕ) (r : ReducedFile) → length (f .file) ≤ length out → ReduceAnswers (f .file) out r → ReduceWrites (f .file) out new → WrittenAt (f .file) out r new
   -- and the K and the length that it answers are at most those of any file with this m and these curves.
   pub fewest-answered : (f g : AcceptedFile) (out : List ℕ) (l k : ℕ) → ReduceAnswers (f .file) out (made.Written l k)
       → Alike (familyOf (f .file)) (familyOf (g .file)) → k ≤ regionCount (familyOf (g .file))
@@ -76,7 +82,10 @@ pub record DemandThree : Type 0 where
   -- By its promise `same` says yes exactly when the two families are alike,
   pub alike-if-same : (f g : AcceptedFile) (r : Compared) → SameAnswers (f .file) (g .file) r → r ≡ compared.Same → Alike (familyOf (f .file)) (familyOf (g .file))
   pub same-if-alike : (f g : AcceptedFile) (r : Compared) → SameAnswers (f .file) (g .file) r → Alike (familyOf (f .file)) (familyOf (g .file)) → r ≡ compared.Same
-  -- and exactly when they have the same bounds.
+  -- and no, not a refusal, when they are not; so for different m it is a plain no,
+  pub no-if-unlike : (f g : AcceptedFile) (r : Compared) → SameAnswers (f .file) (g .file) r → (Alike (familyOf (f .file)) (familyOf (g .file)) → ⊥) → r ≡ compared.Different
+  pub no-if-other-m : (f g : AcceptedFile) (r : Compared) → SameAnswers (f .file) (g .file) r → (familyOf (f .file) .peptides ≡ familyOf (g .file) .peptides → ⊥) → r ≡ compared.Different
+  -- and yes exactly when they have the same bounds.
   pub same-bounds-if-same : (f g : AcceptedFile) (r : Compared) → SameAnswers (f .file) (g .file) r → r ≡ compared.Same → SameBounds (familyOf (f .file)) (familyOf (g .file))
   pub same-if-same-bounds : (f g : AcceptedFile) (r : Compared) → SameAnswers (f .file) (g .file) r → SameBounds (familyOf (f .file)) (familyOf (g .file)) → r ≡ compared.Same
 
@@ -93,7 +102,7 @@ module _ (f : AcceptedFile) (out : List ℕ) (room : length (f .file) ≤ length
   no-cause : firstCause (reduceCauses (f .file) out) ≡ 0
   no-cause = output-suffices (f .file) out (f .accepted) room
 
-  reduces-to : (r : ReducedFile) (new : List ℕ) → ReduceAnswers (f .file) out r → ReduceWrites (f .file) out new → AtStart (f .file) out r new
+  reduces-to : (r : ReducedFile) (new : List ℕ) → ReduceAnswers (f .file) out r → ReduceWrites (f .file) out new → WrittenAt (f .file) out r new
   unfolding reportReduced reducedCounts
   reduces-to (made.Written l k) new p w =
       let s = reducedFile (f .file) in
@@ -174,6 +183,13 @@ module _ (f g : AcceptedFile) where
   smallest : Alike F G → NoLarger (familyOf (reducedFile (f .file))) G × (length (reducedFile (f .file)) ≤ length (g .file))
   smallest = smallest-file (f .file) (g .file) (f .bytes) (g .bytes) (f .accepted) (g .accepted)
 
+-- no, and not a refusal
+says-no : (f g : AcceptedFile) (r : Compared) → SameAnswers (f .file) (g .file) r → (Alike (familyOf (f .file)) (familyOf (g .file)) → ⊥) → r ≡ compared.Different
+unfolding reportCompared
+says-no f g compared.Same p unlike = absurd (unlike (equal-alike f g (says-equal f g compared.Same p refl)))
+says-no f g compared.Different p unlike = refl
+says-no f g (compared.Refused n) p unlike = let z = ap length (says f g (compared.Refused n) p) in absurd (omega arith)
+
 pub demand-three : DemandThree
 demand-three =
     record {
@@ -185,6 +201,10 @@ demand-three =
       alike-if-equal = equal-alike;
       equal-if-same-bounds = λ f g s. alike-equal f g (alike-from-bounds f g s);
       same-bounds-if-equal = λ f g e. bounds-from-alike f g (equal-alike f g e);
+      equal-values =
+          λ f g c d e same t h.
+          value-left f c t h ∙ ap (λ (l : List ℕ). getD l t 0) (equal-alike f g e .curves (c .path) (c .is-path) ∙ ap (curveValues (familyOf (g .file))) same)
+          ∙ sym (value-left g d t (rw same at h));
       fewest-regions = λ f g a. smallest f g a .0 .regions;
       shortest = λ f g a. smallest f g a .1;
       fits = λ f. reduced-file-fits (f .file) (f .bytes) (f .accepted);
@@ -193,6 +213,8 @@ demand-three =
       shortest-answered = λ f g out l k p a. omega (arith, counts-said f out l k p .0, smallest f g a .1);
       alike-if-same = λ f g r p e. equal-alike f g (says-equal f g r p e);
       same-if-alike = λ f g r p a. equal-says f g r p (alike-equal f g a);
+      no-if-unlike = says-no;
+      no-if-other-m = λ f g r p other. says-no f g r p (λ a. other (a .peptides));
       same-bounds-if-same = λ f g r p e. bounds-from-alike f g (equal-alike f g (says-equal f g r p e));
       same-if-same-bounds = λ f g r p s. equal-says f g r p (alike-equal f g (alike-from-bounds f g s));
     }

@@ -1,16 +1,18 @@
--- The room of a stretch is the inside total of the innermost range with that stretch, with the live peptides selected.
-use Prim.Native.Nat.{ℕ, _+_, _≤_, _<_}
-use mathlib.Core.Bool.{true}
+-- The room of a stretch: in the words of step 3, and as the inside total of the innermost range with that stretch, with the live peptides
+-- selected.
+use Prim.Native.Nat.{ℕ, _+_, _≤_, _<_, min}
+use mathlib.Core.Bool.{true, _&&_}
 use mathlib.Core.List.{List}
 use mathlib.Core.Logic.{⊎-elim}
 use mathlib.Core.Path.{_≡_, refl}
 use native.Mathlib.Omega.{arith}
-use Rattle.bounds.specs.Ranges.{Range, Peptides, has, In}
-use Rattle.bounds.specs.Bound.{total}
+use Rattle.bounds.specs.Ranges.{Range, Peptides, has, In, sumOver, parts, count, outside}
+use Rattle.bounds.specs.Bound.{total, value}
 use Rattle.bounds.proofs.Basics.Members.{clash}
 use Rattle.bounds.proofs.Basics.Counting.{Subset, none, count-none}
 use Rattle.bounds.proofs.Basics.Nesting.{has-facts, has-holds, Inside, inner, inner-facts}
 use Rattle.bounds.proofs.Theory.Laminar.{Laminar, Fit, isInside, isAround, isBefore, isAfter, fit, member-hosts}
+use Rattle.bounds.proofs.Theory.Totals.{total-is}
 use Rattle.bounds.proofs.Theory.Formula.{at-most}
 use Rattle.reduction.specs.Reduction.{live, stretches, room}
 use Rattle.reduction.proofs.Basics.Counts.{count-wider, count-all}
@@ -18,6 +20,12 @@ use Rattle.reduction.proofs.Theory.Grown.{RespectsIn, grow}
 use Rattle.reduction.proofs.Basics.Unless.{lt-unless}
 use Rattle.reduction.proofs.Theory.Stretches.{StretchOf, wider, Source, stretch-in, stretches-facts}
 use Rattle.reduction.proofs.Theory.SameSets.{stretches-good, range-fits}
+
+-- the sum, over the stretches just inside it, of the smaller of z and room, plus its live peptides in none of these
+pub room-sum : (m : ℕ) (T : List Range) (L : Peptides) (s : Range)
+    → room m T L s ≡ sumOver (λ t. min (t .z) (room m T L t)) (parts T s) + count m (λ p. outside (parts T s) p && L p) s
+unfolding room value
+room-sum m T L s = total-is m T L s
 
 module _ {m : ℕ} {R : List Range} (l : Laminar m R) (s : Range) (i : In s (stretches m R)) (r : Range) (j : In r R)
     (t : StretchOf m R (s .from) (s .to) r) where
