@@ -1,13 +1,15 @@
 -- Demand 1: every call with bad input gets the first cause that holds, with its number, and every lent list is unchanged; with no cause
 -- it does its work. Over all inputs, and over what each call answers and leaves by its promise. A slice that is lent to be read cannot
 -- be written, so only those that are lent for outputs are named; that every call ends is part of the proof of each function.
-use Prim.Native.Nat.{ℕ}
+-- It speaks of every call that has causes. Those of reader that answer a total definition of any bytes (`leaf_of`, `leaf_length`,
+-- `region_of`, the counts, `number_at`, `same_bytes`, `smaller`) have none; the program's text has a theorem of its own (`program-theorem`).
+use Prim.Native.Nat.{ℕ, _+_, _*_}
 use mathlib.Core.Bool.{cond}
 use mathlib.Core.List.{List, [], _∷_}
 use mathlib.Core.Path.{_≡_, refl, sym, ap, ap₂, _∙_}
 use mathlib.Core.Logic.{_⊎_, inl, inr, ⊎-elim, _↔_}
 use native.Mathlib.Omega.{arith}
-use lib.ListN.{length, getD, length-drop, drop-of-length-le}
+use lib.ListN.{length, getD, drop, length-drop, drop-of-length-le}
 use lib.Dec.{eqb}
 use Rattle.reader.specs.Lists.{sameList}
 use Rattle.reader.specs.Bytes.{numberAt}
@@ -17,8 +19,8 @@ use Rattle.reader.specs.Nesting as nesting
 use Rattle.reader.specs.Calls.{report, checked, regionPart, CheckAnswers, RegionsGiven, parentsCauses, ParentsAnswers, ParentsWrites, atStart}
 use Rattle.reader.specs.declared.Checked.{Checked}
 use Rattle.reader.specs.declared.Checked.the-variants as told
-use Rattle.reader.proofs.First.{Numbered, none-or-some}
-use Rattle.reader.proofs.Accepting.{accepted-header, whole-length, part-accepted, part-refused}
+use Rattle.reader.proofs.First.{none-or-some}
+use Rattle.reader.proofs.Accepting.{accepted-header, whole-length, part-accepted, part-refused, start-accepted, start-refused}
 use Rattle.bounds.specs.Selections.{boundOf, takenOf, totalsOf}
 use Rattle.bounds.specs.Curves.{curveValues, curveMarks, cutOf}
 use Rattle.bounds.specs.Calls.{reportBound, causesWithRoom, pathCauses, inputCauses, selectionCauses, curveCauses, cutCauses, BoundAnswers, TakenWrites, TotalsWrites, CurveAnswers, CurveValuesWrites, CurveMarksWrites, CurveDeclines, CutAnswers}
@@ -36,7 +38,7 @@ use Rattle.reduction.specs.declared.Compared.{Compared}
 use Rattle.reduction.specs.declared.Compared.the-variants as compared
 use Rattle.phf.specs.Fields.{valueAt, valueWith, checkedFields, partFields, boundedFields, curvedFields, cuttingFields, reducedFields, comparedFields, CurveAnswer, CutAnswer}
 use Rattle.phf.specs.Calls.{PhfCheckAnswers, PhfRegionsAnswers, PhfBoundAnswers, PhfCurveAnswers, PhfCutAnswers, PhfReduceAnswers, PhfSameAnswers}
-use Rattle.phf.specs.Obeys.{numbers, NoneHolds, FirstHolds, Obeys, ObeysOnPath}
+use Rattle.phf.specs.Obeys.{numbers, NoZero, NoneHolds, FirstHolds, Obeys, ObeysOnPath}
 use Rattle.phf.specs.declared.PhfChecked.{PhfChecked}
 use Rattle.phf.specs.declared.PhfPart.{PhfPart}
 use Rattle.phf.specs.declared.PhfBounded.{PhfBounded}
@@ -45,14 +47,14 @@ use Rattle.phf.specs.declared.PhfCutting.{PhfCutting}
 use Rattle.phf.specs.declared.PhfReduced.{PhfReduced}
 use Rattle.phf.specs.declared.PhfCompared.{PhfCompared}
 use Rattle.phf.proofs.FieldLaws.{part-fields, no-part-fields}
-use Rattle.phf.proofs.Obeying.{first-is, none-is, Lent, nothing-lent, lent-too, lent-one, made-obeys, remade-obeys, value-none, value-some, values-done, obeys-on-path}
+use Rattle.phf.proofs.Obeying.{first-is, numbered-if, none-is, Lent, nothing-lent, lent-too, lent-one, made-obeys, remade-obeys, value-none, value-some, values-done, obeys-on-path}
 use Rattle.phf.proofs.LibraryAnswers.{checkedOf, boundedOf, reducedOf, comparedOf, checked-remade, bounded-remade, reduced-remade, compared-remade, yes-or-no, curve-refuses, curve-does, cut-refuses, cut-does}
 
 pub record DemandOne : Type 0 where
   -- The first cause of a list has the number n exactly when a cause with this number holds and none before it. In a list that has no
-  -- cause with the number 0, as all below, it is 0 exactly when none holds.
+  -- cause with the number 0, as the lists below show of all, it is 0 exactly when none holds.
   pub first-cause : (cs : List Cause) (n : ℕ) → (n ≡ 0 → ⊥) → (firstCause cs ≡ n) ↔ FirstHolds cs n
-  pub no-cause : (cs : List Cause) → Numbered cs → (firstCause cs ≡ 0) ↔ NoneHolds cs
+  pub no-cause : (cs : List Cause) → NoZero (numbers cs) → (firstCause cs ≡ 0) ↔ NoneHolds cs
   -- The causes that each call tries, in this order.
   pub check-tries : (file : List ℕ) → numbers (fileCauses file) ≡ 1 ∷ 2 ∷ 3 ∷ 4 ∷ 5 ∷ 6 ∷ 7 ∷ 8 ∷ 9 ∷ 10 ∷ []
   pub parents-tries : (file out : List ℕ) → numbers (parentsCauses file out) ≡ 1 ∷ 2 ∷ 3 ∷ 4 ∷ 5 ∷ 6 ∷ 7 ∷ 8 ∷ 9 ∷ 10 ∷ 16 ∷ []
@@ -118,9 +120,18 @@ pub record DemandOne : Type 0 where
       → Obeys (compareCauses first second)
       r compared.Refused (cond (sameList (reducedFile first) (reducedFile second)) compared.Same compared.Different)
       [] [] []
-  -- The part that holds the regions is empty exactly when the file is refused or K is 0; in C it has the length 0 exactly then.
-  pub regions : (place fileAt : ℕ × ℕ) (part file : List ℕ) → RegionsGiven place part fileAt file → (part ≡ []) ↔ ((Accepted file → ⊥) ⊎ (regionCount (familyOf file) ≡ 0))
-  pub phf-regions : (file : List ℕ) (r : PhfPart) → PhfRegionsAnswers file r → (r .length ≡ 0) ↔ ((Accepted file → ⊥) ⊎ (regionCount (familyOf file) ≡ 0))
+  -- The part that holds the regions: of an accepted file the 6K bytes from byte 16 + 2N on; of a refused one nothing, at the file's start.
+  pub regions-accepted : (place fileAt : ℕ × ℕ) (part file : List ℕ) → RegionsGiven place part fileAt file → Accepted file
+      → (part ≡ drop (regionsOffset (leaves (familyOf file))) file) × (length part ≡ 6 * regionCount (familyOf file))
+      × (place .0 ≡ fileAt .0) × (place .1 ≡ fileAt .1 + regionsOffset (leaves (familyOf file)))
+  pub regions-refused : (place fileAt : ℕ × ℕ) (part file : List ℕ) → RegionsGiven place part fileAt file → (Accepted file → ⊥)
+      → (part ≡ []) × (place .0 ≡ fileAt .0) × (place .1 ≡ fileAt .1)
+  -- In C it is an offset and a length.
+  pub phf-regions : (file : List ℕ) (r : PhfPart) → PhfRegionsAnswers file r
+      → Obeys (fileCauses file) r (λ n. record { offset = 0; length = 0 }) (record { offset = regionsOffset (leaves (familyOf file)); length = 6 * regionCount (familyOf file) }) [] [] []
+  -- It is empty exactly when the file is refused or K is 0; in C it has the length 0 exactly then.
+  pub regions-empty : (place fileAt : ℕ × ℕ) (part file : List ℕ) → RegionsGiven place part fileAt file → (part ≡ []) ↔ ((Accepted file → ⊥) ⊎ (regionCount (familyOf file) ≡ 0))
+  pub phf-regions-empty : (file : List ℕ) (r : PhfPart) → PhfRegionsAnswers file r → (r .length ≡ 0) ↔ ((Accepted file → ⊥) ⊎ (regionCount (familyOf file) ≡ 0))
 
 -- The calls with a path.
 
@@ -180,12 +191,24 @@ module _ (file : List ℕ) where
       (λ refused. ap (λ (p : PhfPart). p .length) (no-part-fields file refused))
       (λ a. let six = ap (λ (p : PhfPart). p .length) (part-fields file a) in (λ e. omega arith, λ k. omega arith))
 
+module _ (place fileAt : ℕ × ℕ) (part file : List ℕ) (h : RegionsGiven place part fileAt file) where
+  part-of-accepted : Accepted file
+      → (part ≡ drop (regionsOffset (leaves (familyOf file))) file) × (length part ≡ 6 * regionCount (familyOf file))
+      × (place .0 ≡ fileAt .0) × (place .1 ≡ fileAt .1 + regionsOffset (leaves (familyOf file)))
+  part-of-accepted a =
+      let o : ℕ = regionsOffset (leaves (familyOf file)) in
+      let e = h .bytes ∙ part-accepted file a in
+      (e, omega (arith, ap length e, length-drop o file, whole-length file (accepted-header file a)), h .part .block, h .part .place ∙ ap (λ n. fileAt .1 + n) (start-accepted file a))
+
+  part-of-refused : (Accepted file → ⊥) → (part ≡ []) × (place .0 ≡ fileAt .0) × (place .1 ≡ fileAt .1)
+  part-of-refused r = (h .bytes ∙ part-refused file r, h .part .block, omega (arith, h .part .place, start-refused file r))
+
 pub demand-one : DemandOne
 unfolding headerCauses familyCauses fileCauses parentsCauses causesWithRoom pathCauses inputCauses curveCauses cutCauses reduceCauses compareCauses checked checkedFields boundedFields reducedFields comparedFields valueAt reducedCounts comparison checkedOf boundedOf reducedOf comparedOf
 demand-one =
     record {
       first-cause = first-is;
-      no-cause = none-is;
+      no-cause = λ cs n. none-is cs (numbered-if cs n);
       check-tries = λ file. refl;
       parents-tries = λ file out. refl;
       bound-tries = λ file selection out. refl;
@@ -207,6 +230,9 @@ demand-one =
       cut = λ file path a b r h. obeys-on-path _ path _ _ h r _ _ [] [] [] (cut-refuses _ path _ r h) (cut-does _ path _ r h) (nothing-lent _);
       reduce = λ file out new r h w. remade-obeys (reduceCauses file out) _ reportReduced reducedOf reduced-remade r (new ∷ []) _ _ h (lent-one _ _ _ _ w);
       same = λ first second r h. rw (← yes-or-no (sameList (reducedFile first) (reducedFile second))) (remade-obeys (compareCauses first second) _ reportCompared comparedOf compared-remade r [] [] [] h (nothing-lent _));
-      regions = λ place fileAt part file h. rw (h .bytes) (part-empty file);
-      phf-regions = λ file r h. rw h (length-empty file);
+      regions-accepted = part-of-accepted;
+      regions-refused = part-of-refused;
+      phf-regions = λ file r h. record { declined = λ some. (h ∙ no-part-fields file some, refl); done = λ none. (h ∙ part-fields file none, refl) };
+      regions-empty = λ place fileAt part file h. rw (h .bytes) (part-empty file);
+      phf-regions-empty = λ file r h. rw h (length-empty file);
     }

@@ -14,7 +14,7 @@ use Rattle.reader.proofs.First.{Numbered, first-holds, first-fails, head-clear,
 use Rattle.bounds.specs.Curves.{repeated}
 use Rattle.bounds.specs.Calls.{Answers}
 use Rattle.phf.specs.Fields.{valueAt, valueWith}
-use Rattle.phf.specs.Obeys.{NoneHolds, FirstHolds, Obeys, ObeysOnPath}
+use Rattle.phf.specs.Obeys.{numbers, NoZero, NoneHolds, FirstHolds, Obeys, ObeysOnPath}
 
 -- The first cause that holds.
 
@@ -26,6 +26,11 @@ none-clear (c ∷ cs) h = first-fails c cs (h .0) ∙ none-clear cs (h .1)
 clear-none : (cs : List Cause) → Numbered cs → firstCause cs ≡ 0 → NoneHolds cs
 clear-none [] n h = tt
 clear-none (c ∷ cs) n h = let a = head-clear c cs (n .0) h in (a .0, clear-none cs (n .1) (a .1))
+
+-- a list whose numbers are not 0
+pub numbered-if : (cs : List Cause) → NoZero (numbers cs) → Numbered cs
+numbered-if [] h = tt
+numbered-if (c ∷ cs) h = (h .0, numbered-if cs (h .1))
 
 pub none-is : (cs : List Cause) → Numbered cs → (firstCause cs ≡ 0) ↔ NoneHolds cs
 none-is cs n = (clear-none cs n, none-clear cs)
