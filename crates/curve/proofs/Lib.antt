@@ -2,3 +2,4 @@
 pub mod Appending
 pub mod Decoding
 pub mod Printing
+pub mod ProgramTheorem
