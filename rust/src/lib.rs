@@ -8,5 +8,6 @@ pub mod fast;
 pub mod guarded;
 pub mod neighbours;
 pub mod phf;
+pub mod programs;
 pub mod random;
 pub mod reference;

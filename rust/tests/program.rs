@@ -3,6 +3,7 @@
 //! implementation. No proof says what is read or written, so this is what holds the program to it.
 
 use phf_tests::families::{binary_tree, chain, eight_peptides, file, random_family, Bounds};
+use phf_tests::programs;
 use phf_tests::random::{cases, Random};
 use phf_tests::reference::{curve, file_of};
 use std::fs;
@@ -13,27 +14,13 @@ use std::process::{Command, Stdio};
 use std::sync::OnceLock;
 
 fn program() -> PathBuf {
-    let path = Path::new(env!("CARGO_MANIFEST_DIR")).join("../target/bin/curve");
-    assert!(
-        path.exists(),
-        "{} is missing: run `rt check curve` first",
-        path.display()
-    );
-    path.canonicalize().unwrap()
+    programs::program("curve")
 }
 
 /// A new folder with these files.
 fn folder(name: &str, family: Option<&[u8]>, path: Option<&[u8]>) -> PathBuf {
-    let folder = Path::new(env!("CARGO_TARGET_TMPDIR")).join(name);
-    let _ = fs::remove_dir_all(&folder);
-    fs::create_dir_all(&folder).unwrap();
-    if let Some(bytes) = family {
-        fs::write(folder.join("family.phf"), bytes).unwrap();
-    }
-    if let Some(bytes) = path {
-        fs::write(folder.join("path.u16"), bytes).unwrap();
-    }
-    folder
+    let place = Path::new(env!("CARGO_TARGET_TMPDIR")).join(name);
+    programs::folder(&place, family, path)
 }
 
 /// What a command that ends well writes to standard output and to standard error.

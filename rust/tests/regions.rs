@@ -4,31 +4,19 @@
 use phf_tests::families::{
     binary_tree, chain, damage, eight_peptides, file, random_family, Bounds, DAMAGES,
 };
+use phf_tests::guarded;
 use phf_tests::phf;
+use phf_tests::programs::{folder, program};
 use phf_tests::random::{cases, Random};
 use phf_tests::reference::{check, file_of};
-use std::fs;
 use std::path::Path;
 use std::process::Command;
 
 /// What the program writes in a folder with this file.
 fn written(name: &str, family: Option<&[u8]>) -> Vec<u8> {
-    let program = Path::new(env!("CARGO_MANIFEST_DIR")).join("../target/bin/region_part");
-    assert!(
-        program.exists(),
-        "{} is missing: run `rt check region_part` first",
-        program.display()
-    );
-    let folder = Path::new(env!("CARGO_TARGET_TMPDIR"))
-        .join("regions")
-        .join(name);
-    let _ = fs::remove_dir_all(&folder);
-    fs::create_dir_all(&folder).unwrap();
-    if let Some(bytes) = family {
-        fs::write(folder.join("family.phf"), bytes).unwrap();
-    }
-    let output = Command::new(program.canonicalize().unwrap())
-        .current_dir(&folder)
+    let place = Path::new(env!("CARGO_TARGET_TMPDIR")).join("regions");
+    let output = Command::new(program("region_part"))
+        .current_dir(folder(&place.join(name), family, None))
         .output()
         .unwrap();
     assert!(output.status.success());
@@ -49,7 +37,7 @@ fn expected(file: &[u8]) -> Vec<u8> {
 fn part(name: &str, file: &[u8]) -> Vec<u8> {
     let part = written(name, Some(file));
     assert_eq!(part, expected(file));
-    let place = phf::regions(file);
+    let place = guarded::regions(file);
     let (from, length) = (place.offset as usize, place.length as usize);
     assert_eq!(part, file[from..from + length]);
     part
@@ -72,7 +60,7 @@ fn leaf_lengths_with_the_bytes_of_a_region() {
         offset: 22,
         length: 6,
     };
-    assert_eq!(phf::regions(&family), place);
+    assert_eq!(guarded::regions(&family), place);
 }
 
 #[test]
@@ -83,7 +71,7 @@ fn no_region() {
         offset: 20,
         length: 0,
     };
-    assert_eq!(phf::regions(&file(&[1, 2], &[])), place);
+    assert_eq!(guarded::regions(&file(&[1, 2], &[])), place);
 }
 
 #[test]
