@@ -159,8 +159,7 @@ module _ (s : List ℕ) where
         leaves-some = leaves-counted F (head .no3) .0;
         leaves-most = leaves-counted F (head .no3) .1;
         regions-most = regions-counted F (head .no4);
-        lengths-some = lengths-clear F (fam .no6) .0;
-        lengths-sum = lengths-clear F (fam .no6) .1;
+        lengths-sum = lengths-clear F (fam .no6);
         ordered = ordered;
         nested = nested-if-clear F ordered (fam .no9);
         shallow = shallow-if-clear F (fam .no10);
@@ -196,7 +195,7 @@ module _ (s : List ℕ) where
   pub few-regions : HeaderClear s → regionCount (familyOf s) ≤ 8191
   few-regions h =
       let F : Family = familyOf s in
-      omega (arith, peptides-counted F (h .no2), leaves-counted F (h .no3), regions-counted F (h .no4))
+      omega (arith, leaves-counted F (h .no3), regions-counted F (h .no4))
 
   pub whole-length : HeaderClear s → length s ≡ totalLength (leaves (familyOf s)) (regionCount (familyOf s))
   whole-length h = omega (arith, laid-down s (h .no5) .whole, leaves-read s, regions-read s)

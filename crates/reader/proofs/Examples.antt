@@ -1,6 +1,7 @@
--- Worked examples of the check: the eight-peptide family, and the edges of causes 2, 4 and 10.
+-- Worked examples of the check: the eight-peptide family, and the edges of causes 2, 3, 4, 6 and 10.
 use Prim.Native.Nat.{ℕ, _-_}
-use mathlib.Core.List.{List, [], _∷_}
+use mathlib.Core.Bool.{true, false}
+use mathlib.Core.List.{List, [], _∷_, _++_}
 use mathlib.Core.Path.{_≡_, refl}
 use lib.ListN.{replicate, take, drop}
 use Rattle.reader.specs.Lists.{tabulate, sum, sameList, someBelow, countBelow, firstBelow}
@@ -54,6 +55,14 @@ overfull = record { peptides = 3; lengths = 1 ∷ 1 ∷ 1 ∷ []; regions = tabu
 pub singleLeaf : ℕ → Family
 singleLeaf m = record { peptides = m; lengths = m ∷ []; regions = [] }
 
+-- one peptide on the last of n leaves; the others are empty
+pub lastLeafOnly : ℕ → Family
+lastLeafOnly n = record { peptides = 1; lengths = replicate (n - 1) 0 ++ (1 ∷ []); regions = range 1 n 0 ∷ [] }
+
+-- the given number of empty leaves, and a peptide
+pub noneMeasured : ℕ → Family
+noneMeasured n = record { peptides = 1; lengths = replicate n 0; regions = [] }
+
 -- the number that the check gives the file of a family; naming it opens every definition on the way
 pub number : Family → ℕ
 unfolding tabulate sum sameList someBelow countBelow numberAt bytesOf region mark lengthAt regionAt familyOf regionFields fields fileOf before shareLeaf regionWithin crossing regionInside cause1 cause2 cause3 cause4 cause5 cause6 cause7 cause8 cause9 cause10 misplaced firstCause headerCauses familyCauses fileCauses
@@ -88,17 +97,27 @@ eight-parents = refl
 pub record Edges : Type 0 where
   pub most-peptides : number (singleLeaf 4096) ≡ 0
   pub too-many-peptides : number (singleLeaf 4097) ≡ 2
+  pub most-leaves : cause3 (lastLeafOnly 4096) ≡ false
+  pub too-many-leaves : cause3 (lastLeafOnly 4097) ≡ true
+  pub more-leaves-than-peptides : number (lastLeafOnly 9) ≡ 0
+  pub no-leaf : number (noneMeasured 0) ≡ 3
+  pub nothing-measured : number (noneMeasured 3) ≡ 6
   pub most-regions : number comb ≡ 0
   pub too-many-regions : number overfull ≡ 4
   pub deepest : number (nest 64) ≡ 0
   pub too-deep : number (nest 65) ≡ 10
 
 pub edges : Edges
-unfolding number nest comb overfull singleLeaf
+unfolding number nest comb overfull singleLeaf lastLeafOnly noneMeasured
 edges =
     record {
       most-peptides = refl;
       too-many-peptides = refl;
+      most-leaves = refl;
+      too-many-leaves = refl;
+      more-leaves-than-peptides = refl;
+      no-leaf = refl;
+      nothing-measured = refl;
       most-regions = refl;
       too-many-regions = refl;
       deepest = refl;

@@ -143,18 +143,18 @@ module _ (F : Family) (w : WellFormed F) where
 
   read-leaves : numberAt (fileOf F) 6 ≡ leaves F
   unfolding fields
-  read-leaves = field-read F 1 6 refl (omega (arith, w .peptides-most, w .leaves-most))
+  read-leaves = field-read F 1 6 refl (omega (arith, w .leaves-most))
 
   read-regions : numberAt (fileOf F) 8 ≡ regionCount F
   unfolding fields
-  read-regions = field-read F 2 8 refl (omega (arith, w .peptides-most, w .leaves-most, w .regions-most))
+  read-regions = field-read F 2 8 refl (omega (arith, w .leaves-most, w .regions-most))
 
   read-laid-down : LaidDown (fileOf F)
   unfolding fields
   read-laid-down =
       let n = read-leaves in
       let k = read-regions in
-      let small : totalLength (leaves F) (regionCount F) < 65536 = omega (arith, w .peptides-most, w .leaves-most, w .regions-most) in
+      let small : totalLength (leaves F) (regionCount F) < 65536 = omega (arith, w .leaves-most, w .regions-most) in
       record {
         lengths = field-read F 3 10 refl (omega arith);
         regions = field-read F 4 12 refl (omega arith) ∙ omega arith;
@@ -179,9 +179,9 @@ module _ (F : Family) (w : WellFormed F) where
       let o : ℕ = 16 + 2 * numberAt (fileOf F) 6 + 6 * k in
       let small = w .ordered .last-leaf k h in
       let first : numberAt (fileOf F) o ≡ region F k .first =
-      field-read F (6 + (leaves F + 3 * k)) o (omega arith) (omega (arith, w .ordered .first-last k h, w .leaves-most, w .peptides-most)) ∙ a in
+      field-read F (6 + (leaves F + 3 * k)) o (omega arith) (omega (arith, w .ordered .first-last k h, w .leaves-most)) ∙ a in
       let last : numberAt (fileOf F) (o + 2) ≡ region F k .last =
-      field-read F (6 + (leaves F + (3 * k + 1))) (o + 2) (omega arith) (omega (arith, w .leaves-most, w .peptides-most)) ∙ b in
+      field-read F (6 + (leaves F + (3 * k + 1))) (o + 2) (omega arith) (omega (arith, w .leaves-most)) ∙ b in
       let bound : numberAt (fileOf F) (o + 4) ≡ region F k .z =
       field-read F (6 + (leaves F + (3 * k + 2))) (o + 4) (omega arith) (omega (arith, w .z-fits k h)) ∙ z in
       λ i. record { first = first i; last = last i; z = bound i }
@@ -232,7 +232,7 @@ module _ (F : Family) (w : WellFormed F) where
       family : FamilyClear F
       family =
           record {
-            no6 = from-lengths-clear F (w .lengths-some) (w .lengths-sum);
+            no6 = from-lengths-clear F (w .lengths-sum);
             no7 = from-regions-placed F (λ k l. record { first-some = w .ordered .first-some k l; first-last = w .ordered .first-last k l; last-leaf = w .ordered .last-leaf k l });
             no8 = from-regions-rise F next-before;
             no9 = clear-if-nested F (w .ordered) (w .nested);

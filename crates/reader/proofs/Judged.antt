@@ -6,15 +6,14 @@ use mathlib.Core.Bool.{Bool, true, false, not, cond, _&&_, _||_}
 use mathlib.Core.List.{List}
 use mathlib.Core.Path.{_≡_, refl}
 use mathlib.Core.Logic.{_⊎_, inl, inr, ⊎-elim}
-use lib.ListN.{length, getD, take}
+use lib.ListN.{length, take}
 use lib.Dec.{leb, ltb, eqb}
 use borrow.Author.Tests.{ltb-true, ltb-false, leb-true, leb-false, eqb-true, eqb-false, lt-ltb, le-ltb, eq-eqb, ne-eqb, not-false}
-use Rattle.reader.specs.Lists.{sum, sameList, someBelow}
+use Rattle.reader.specs.Lists.{sum, sameList}
 use Rattle.reader.specs.Bytes.{numberAt}
 use Rattle.reader.specs.Family.{Region, Family, leaves, regionCount, region, familyOf, mark, regionsOffset, totalLength}
 use Rattle.reader.specs.Nesting.{before}
 use Rattle.reader.specs.Causes.{cause1, cause2, cause3, cause4, cause5, cause6, cause7, cause8, misplaced, firstCause, headerCauses}
-use Rattle.reader.specs.Private.InPlace.{emptyLeaf}
 use Rattle.reader.proofs.Bools.{test, refuted, and-l, and-r, and-both, or-l, or-r, or-either, or-neither, or-fails-l, or-fails-r, not-fails, not-passes}
 use Rattle.reader.proofs.Below.{none-at, none-below}
 use Rattle.reader.proofs.Lists.{same-equal, same-refl}
@@ -58,13 +57,13 @@ module _ (F : Family) where
   unfolding cause2
   from-peptides-counted a b = or-neither _ _ (zero-unless _ a) (le-ltb 4096 _ b)
 
-  pub leaves-counted : cause3 F ≡ false → (1 ≤ leaves F) × (leaves F ≤ F .peptides)
+  pub leaves-counted : cause3 F ≡ false → (1 ≤ leaves F) × (leaves F ≤ 4096)
   unfolding cause3
-  leaves-counted h = (some-if _ (or-fails-l _ (ltb (F .peptides) (leaves F)) h), ltb-false (F .peptides) _ (or-fails-r (eqb (leaves F) 0) _ h))
+  leaves-counted h = (some-if _ (or-fails-l _ (ltb 4096 (leaves F)) h), ltb-false 4096 _ (or-fails-r (eqb (leaves F) 0) _ h))
 
-  pub from-leaves-counted : 1 ≤ leaves F → leaves F ≤ F .peptides → cause3 F ≡ false
+  pub from-leaves-counted : 1 ≤ leaves F → leaves F ≤ 4096 → cause3 F ≡ false
   unfolding cause3
-  from-leaves-counted a b = or-neither _ _ (zero-unless _ a) (le-ltb (F .peptides) _ b)
+  from-leaves-counted a b = or-neither _ _ (zero-unless _ a) (le-ltb 4096 _ b)
 
   pub regions-counted : cause4 F ≡ false → regionCount F ≤ 2 * leaves F - 1
   unfolding cause4
@@ -125,21 +124,13 @@ module _ (s : List ℕ) where
 -- Causes 6 to 10.
 
 module _ (F : Family) where
-  pub lengths-clear : cause6 F ≡ false → ((j : ℕ) → j < leaves F → 1 ≤ getD (F .lengths) j 0) × (sum (F .lengths) ≡ F .peptides)
+  pub lengths-clear : cause6 F ≡ false → sum (F .lengths) ≡ F .peptides
   unfolding cause6
-  lengths-clear h =
-      let p : ℕ → Bool = λ j. eqb (getD (F .lengths) j 0) 0 in
-      let d : Bool = not (eqb (sum (F .lengths)) (F .peptides)) in (
-        λ j l. some-if (getD (F .lengths) j 0) (none-at p (leaves F) j (or-fails-l (someBelow (leaves F) p) d h) l),
-        eq-if-same (sum (F .lengths)) (F .peptides) (or-fails-r (someBelow (leaves F) p) d h),
-      )
+  lengths-clear h = eq-if-same (sum (F .lengths)) (F .peptides) h
 
-  pub from-lengths-clear : ((j : ℕ) → j < leaves F → 1 ≤ getD (F .lengths) j 0) → sum (F .lengths) ≡ F .peptides → cause6 F ≡ false
+  pub from-lengths-clear : sum (F .lengths) ≡ F .peptides → cause6 F ≡ false
   unfolding cause6
-  from-lengths-clear a e =
-      or-neither (someBelow (leaves F) (λ j. eqb (getD (F .lengths) j 0) 0)) (not (eqb (sum (F .lengths)) (F .peptides)))
-      (none-below (λ j. eqb (getD (F .lengths) j 0) 0) (leaves F) (λ j l. zero-unless (getD (F .lengths) j 0) (a j l)))
-      (same-if-eq (sum (F .lengths)) (F .peptides) e)
+  from-lengths-clear e = same-if-eq (sum (F .lengths)) (F .peptides) e
 
 -- a region on the leaves 1 to n
 pub record OnLeaves (n : ℕ) (r : Region) : Type 0 where
@@ -204,15 +195,6 @@ not-before-last r q e =
     (test (leb (r .last) (q .last)))
 
 module _ (F : Family) where
-  -- cause 6 by its two tests in turn
-  pub empty-refused : someBelow (leaves F) (emptyLeaf F) ≡ true → cause6 F ≡ true
-  unfolding cause6 emptyLeaf
-  empty-refused h = or-l _ _ h
-
-  pub sum-tested : someBelow (leaves F) (emptyLeaf F) ≡ false → cause6 F ≡ not (eqb (sum (F .lengths)) (F .peptides))
-  unfolding cause6 emptyLeaf
-  sum-tested h = rw h
-
   pub regions-placed : cause7 F ≡ false → (k : ℕ) → k < regionCount F → OnLeaves (leaves F) (region F k)
   unfolding cause7
   regions-placed h k l = on-leaves (leaves F) (region F k) (none-at (λ k. misplaced (leaves F) (region F k)) (regionCount F) k h l)

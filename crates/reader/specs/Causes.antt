@@ -3,7 +3,7 @@ use Prim.Native.Nat.{ℕ, _+_, _*_, _-_}
 use mathlib.Core.Bool.{Bool, not, cond, _||_}
 use mathlib.Core.List.{List, [], _∷_, _++_}
 use mathlib.Core.Path.{_≡_}
-use lib.ListN.{length, getD, take}
+use lib.ListN.{length, take}
 use lib.Dec.{ltb, eqb}
 use Rattle.reader.specs.Lists.{sum, sameList, someBelow}
 use Rattle.reader.specs.Bytes.{IsBytes, numberAt}
@@ -18,9 +18,9 @@ cause1 s = ltb (length s) 16 || not (sameList (take 4 s) mark)
 unfoldable pub cause2 : Family → Bool
 cause2 F = eqb (F .peptides) 0 || ltb 4096 (F .peptides)
 
--- N is 0 or over m
+-- N is 0 or over 4,096
 unfoldable pub cause3 : Family → Bool
-cause3 F = eqb (leaves F) 0 || ltb (F .peptides) (leaves F)
+cause3 F = eqb (leaves F) 0 || ltb 4096 (leaves F)
 
 -- K over 2N - 1
 unfoldable pub cause4 : Family → Bool
@@ -36,9 +36,9 @@ cause5 s =
     || not (eqb (numberAt s 14) (totalLength N K))
     || not (eqb (length s) (numberAt s 14))
 
--- a leaf length 0, or their sum not m
+-- the leaf lengths do not add to m
 unfoldable pub cause6 : Family → Bool
-cause6 F = someBelow (leaves F) (λ j. eqb (getD (F .lengths) j 0) 0) || not (eqb (sum (F .lengths)) (F .peptides))
+cause6 F = not (eqb (sum (F .lengths)) (F .peptides))
 
 -- first leaf 0, last below first, or last over N
 unfoldable pub misplaced : ℕ → Region → Bool

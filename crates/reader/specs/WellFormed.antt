@@ -24,9 +24,8 @@ pub record WellFormed (F : Family) : Type 0 where
   pub peptides-some : 1 ≤ F .peptides
   pub peptides-most : F .peptides ≤ 4096
   pub leaves-some : 1 ≤ leaves F
-  pub leaves-most : leaves F ≤ F .peptides
+  pub leaves-most : leaves F ≤ 4096
   pub regions-most : regionCount F ≤ 2 * leaves F - 1
-  pub lengths-some : (j : ℕ) → j < leaves F → 1 ≤ getD (F .lengths) j 0
   pub lengths-sum : sum (F .lengths) ≡ F .peptides
   pub ordered : Ordered F
   pub nested : NestedBelow F (regionCount F)

@@ -9,14 +9,13 @@ use crate::family::region_count;
 use crate::family::region_of;
 use crate::family::region_within;
 ghost use mathlib.Core.Path.{_≡_};
-ghost use mathlib.Core.Bool.{not, _||_};
-ghost use Prim.Native.Nat.{_+_, _<_, _≤_, min};
-ghost use lib.Dec.{eqb};
-ghost use Rattle.reader.specs.Lists.{sum, someBelow};
+ghost use mathlib.Core.Bool.{not};
+ghost use Prim.Native.Nat.{_<_};
+ghost use Rattle.reader.specs.Lists.{sum};
 ghost use Rattle.reader.specs.Family.{familyOf, leaves, regionCount, region};
 ghost use Rattle.reader.specs.Nesting.{before};
 ghost use Rattle.reader.specs.Causes.{cause1, cause5, cause6, cause7, cause8, misplaced, firstCause, headerCauses};
-ghost use Rattle.reader.specs.Private.InPlace.{Whole, emptyLeaf};
+ghost use Rattle.reader.specs.Private.InPlace.{Whole};
 ghost use Rattle.reader.specs.Calls.{held};
 
 fn lacks_mark(file: &[u8]) -> bool
@@ -47,7 +46,7 @@ pub(crate) fn header_cause(file: &[u8]) -> u8
     if n == 0 {
         return 3;
     }
-    if m < n {
+    if 4096 < n {
         return 3;
     }
     if 2 * n - 1 < k {
@@ -74,59 +73,6 @@ fn bad_layout(file: &[u8]) -> bool
     file.len() != total
 }
 
-// Whether one of the leaves so far is empty: one before, or the one of that length.
-fn empty_so_far(before: bool, length: u16) -> bool
-    ensures { λ r. ⌜ r ≡ (before || eqb length 0) ⌝ }
-{
-    if before { true } else { length == 0 }
-}
-
-// Whether one of the leaves from one place to another, counted from 0, is empty. The loop goes to the end in any case:
-// several lengths are then compared at once.
-fn some_empty(file: &[u8], from: usize, to: usize) -> bool
-    requires { ⌜ Whole (now file) ⌝ }
-    requires { ⌜ from ≤ to ⌝ }
-    requires { ⌜ to ≤ leaves (familyOf (now file)) ⌝ }
-    ensures { λ r. ⌜ someBelow to (emptyLeaf (familyOf (now (file .entry)))) ≡ (someBelow from (emptyLeaf (familyOf (now (file .entry)))) || r) ⌝ }
-{
-    let mut empty = false;
-    let mut j = from;
-    while j < to {
-        empty = empty_so_far(empty, number_within(file, 16 + 2 * j));
-        j += 1;
-    }
-    empty
-}
-
-// Where 64 leaves end that begin at a place, or the leaves.
-fn block_end(from: usize, leaves: usize) -> usize
-    requires { ⌜ from ≤ leaves ⌝ }
-    ensures { λ r. ⌜ r ≡ min (from + 64) leaves ⌝ }
-{
-    if leaves - from < 64 {
-        leaves
-    } else {
-        from + 64
-    }
-}
-
-// Whether a leaf is empty: 64 leaves at a time, so that a file of empty leaves is refused at once.
-fn has_empty_leaf(file: &[u8]) -> bool
-    requires { ⌜ Whole (now file) ⌝ }
-    ensures { λ r. ⌜ r ≡ someBelow (leaves (familyOf (now (file .entry)))) (emptyLeaf (familyOf (now (file .entry)))) ⌝ }
-{
-    let leaves = leaf_count(file) as usize;
-    let mut j = 0;
-    while j < leaves {
-        let end = block_end(j, leaves);
-        if some_empty(file, j, end) {
-            return true;
-        }
-        j = end;
-    }
-    false
-}
-
 // The lengths of all leaves, added up. The loop has no way out: several lengths are then added at once.
 fn added_lengths(file: &[u8]) -> u32
     requires { ⌜ Whole (now file) ⌝ }
@@ -142,14 +88,11 @@ fn added_lengths(file: &[u8]) -> u32
     sum
 }
 
-// A leaf length 0, or their sum not m.
+// The leaf lengths do not add to m.
 pub(crate) fn bad_lengths(file: &[u8]) -> bool
     requires { ⌜ Whole (now file) ⌝ }
     ensures { λ r. ⌜ r ≡ cause6 (familyOf (now (file .entry))) ⌝ }
 {
-    if has_empty_leaf(file) {
-        return true;
-    }
     added_lengths(file) != peptide_count(file) as u32
 }
 

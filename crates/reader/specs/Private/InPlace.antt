@@ -1,20 +1,14 @@
 -- What the private functions that read the file in place ask of each other and promise.
 use Prim.Native.Nat.{ℕ, _+_, _≤_}
-use mathlib.Core.Bool.{Bool}
 use mathlib.Core.List.{List}
 use mathlib.Core.Path.{_≡_}
-use lib.ListN.{length, getD, drop}
-use lib.Dec.{eqb}
+use lib.ListN.{length, drop}
 use Rattle.reader.specs.Bytes.{numberAt}
 use Rattle.reader.specs.Family.{Family, leaves, regionCount, leafOf, leafAfter, totalLength, familyOf}
 
 -- the file has all the lengths and regions that its header counts
 abbrev pub Whole : List ℕ → Type 0
 Whole s = totalLength (leaves (familyOf s)) (regionCount (familyOf s)) ≤ length s
-
--- the j-th leaf, counted from 0, has no peptide
-unfoldable pub emptyLeaf : Family → ℕ → Bool
-emptyLeaf F j = eqb (getD (F .lengths) j 0) 0
 
 -- the eight numbers in a row from an offset, added up
 unfoldable pub eightLengths : List ℕ → ℕ → ℕ

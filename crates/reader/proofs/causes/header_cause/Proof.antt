@@ -21,7 +21,7 @@ no2 c = let s = now (c .before .before .before .before .before .before .before .
 no3 : (c : tie.Else5) → cause3 (familyOf (now (c .before .before .before .before .before .before .before .before .before .before .args .file))) ≡ false
 no3 c =
     let s = now (c .before .before .before .before .before .before .before .before .before .before .args .file) in
-    from-leaves-counted (familyOf s) (omega (arith, leaves-read s)) (omega (arith, peptides-read s, leaves-read s))
+    from-leaves-counted (familyOf s) (omega (arith, leaves-read s)) (omega (arith, leaves-read s))
 
 no4 : (c : tie.Else6) → cause4 (familyOf (now (c .before .before .before .before .before .before .before .before .before .before .before .args .file))) ≡ false
 no4 c = let s = now (c .before .before .before .before .before .before .before .before .before .before .before .args .file) in from-regions-counted (familyOf s) (omega (arith, leaves-read s, regions-read s))
@@ -59,7 +59,7 @@ returns-4 c =
 returns-5 : tie.Need-returns-5
 returns-5 c =
     let s = now (c .before .before .before .before .before .before .before .before .before .before .args .file) in
-    sym (header-3 s (no1 (c .before .before .before .before .before .before .before)) (no2 (c .before .before)) (passes _ (λ f. omega (arith, leaves-counted (familyOf s) f, leaves-read s, peptides-read s))))
+    sym (header-3 s (no1 (c .before .before .before .before .before .before .before)) (no2 (c .before .before)) (passes _ (λ f. omega (arith, leaves-counted (familyOf s) f, leaves-read s))))
 
 mul-if6 : tie.Need-mul-if6
 mul-if6 c = search needs
