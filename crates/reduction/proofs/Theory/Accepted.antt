@@ -18,7 +18,7 @@ use Rattle.reduction.proofs.Theory.RunOrStretch.{Kind, aRun, aStretch, 
 use Rattle.reduction.proofs.Theory.Depth.{reduced-depth}
 use Rattle.reduction.proofs.Theory.LeafNumbers.{again-inside}
 use Rattle.reduction.proofs.Theory.Regions.{region-place, regions-ordered, regions-nested, sum-map, regions-around-count}
-use Rattle.reduction.proofs.Theory.WrittenFamily.{written-range, leaves-some, leaves-most, lengths-some, lengths-sum, written-planted, regions-most}
+use Rattle.reduction.proofs.Theory.WrittenFamily.{written-range, leaves-some, leaves-most, lengths-sum, written-planted, regions-most}
 use Rattle.reduction.proofs.Theory.FewerLeaves
 
 pub leaves-fewer : (F : Family) → WellFormed F → leaves (reducedFamily F) ≤ leaves F
@@ -92,9 +92,8 @@ reduced-wellformed F w =
       peptides-some = w .peptides-some;
       peptides-most = w .peptides-most;
       leaves-some = leaves-some m Q (w .peptides-some);
-      leaves-most = leaves-most m Q;
+      leaves-most = omega (arith, leaves-most m Q, w .peptides-most);
       regions-most = omega (arith, regions-most m Q tidy (w .peptides-some));
-      lengths-some = lengths-some m Q;
       lengths-sum = lengths-sum m Q;
       ordered = regions-ordered (reducedFamily F) planted;
       nested = regions-nested (reducedFamily F) planted;
