@@ -12,11 +12,11 @@ use lib.Dec.{leb, ltb}
 use borrow.Author.Tests.{ltb-true, ltb-false, leb-true, leb-false, le-leb, lt-leb}
 use Rattle.reader.specs.Lists.{sum}
 use Rattle.reader.specs.Bytes.{numberAt}
-use Rattle.reader.specs.Family.{Family, familyOf, leaves, leafAfter, leafOf, peptidesUpTo}
+use Rattle.reader.specs.Family.{Family, familyOf, leaves, leafLength, leafAfter, leafOf, peptidesUpTo}
 use Rattle.reader.specs.Private.InPlace.{eightLengths}
 use Rattle.reader.proofs.Bools.{test}
 use Rattle.reader.proofs.Lists.{sum-take-suc}
-use Rattle.reader.proofs.Parsed.{length-number}
+use Rattle.reader.proofs.Parsed.{length-leaf, length-number}
 
 module _ (F : Family) where
   pub walk-starts : (p : ℕ) → leafOf F p ≡ leafAfter 0 (drop 0 (F .lengths)) p
@@ -109,6 +109,14 @@ module _ (F : Family) where
   leaf-found p some most =
       rw (walk-starts F p)
       (walk-finds (leaves F) p 0 p (omega arith) (omega (arith, nothing-before)) some most (at-start some))
+
+  -- and that leaf has a peptide
+  pub leaf-not-empty : (p : ℕ) → 1 ≤ p → p ≤ sum (F .lengths) → 1 ≤ leafLength F (leafOf F p)
+  leaf-not-empty p some most = go (leafOf F p) (leaf-found p some most)
+    where
+      go : (r : ℕ) → FirstReaching F p r → 1 ≤ leafLength F r
+      go zero h = absurd (omega (arith, h .some))
+      go (suc j) h = omega (arith, h .reaches, h .first j (omega arith), rw add-one at (up-to-next j), length-leaf F j)
 
 -- The lengths in a file.
 module _ (s : List ℕ) where

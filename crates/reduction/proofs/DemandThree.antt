@@ -11,7 +11,7 @@ use lib.ListN.{length, getD, take, drop}
 use lib.Seq.{take-at, drop-at}
 use Rattle.reader.specs.Lists.{sameList}
 use Rattle.reader.specs.Bytes.{IsBytes, numberAt}
-use Rattle.reader.specs.Family.{Family, regionCount, familyOf}
+use Rattle.reader.specs.Family.{Family, leaves, regionCount, leafLength, familyOf}
 use Rattle.reader.specs.Causes.{firstCause, Accepted, AcceptedFile}
 use Rattle.reader.specs.Calls.{Report}
 use Rattle.reader.proofs.Bools.{test}
@@ -34,7 +34,7 @@ use Rattle.reduction.specs.declared.Compared.the-variants as compared
 use Rattle.reduction.specs.Calls.{reportReduced, reduceCauses, reducedCounts, reportCompared, compareCauses, comparison, ReduceAnswers, ReduceWrites, SameAnswers}
 use Rattle.reduction.proofs.Theory.Curves.{bounds-alike, alike-bounds}
 use Rattle.reduction.proofs.Theory.OneForm.{NoLarger}
-use Rattle.reduction.proofs.Theory.OneFile.{reduced-accepted, reduced-bytes, reduced-file-alike, reduced-file-again, reduced-file-fits, alike-same-file, same-file-alike, smallest-file}
+use Rattle.reduction.proofs.Theory.OneFile.{reduced-accepted, reduced-bytes, reduced-file-alike, reduced-file-measured, reduced-file-again, reduced-file-fits, alike-same-file, same-file-alike, smallest-file}
 use Rattle.reduction.proofs.Calls.ReduceCalls.{output-suffices, both-accepted}
 
 -- the answer has the length and the K of the reduced file, which is as many of the first bytes of the output; the rest is unchanged
@@ -55,6 +55,8 @@ pub record DemandThree : Type 0 where
   pub is-accepted : (f : AcceptedFile) → Accepted (reducedFile (f .file))
   -- with the m of the family and, for every path, its curve.
   pub keeps-curves : (f : AcceptedFile) → Alike (familyOf (f .file)) (familyOf (reducedFile (f .file)))
+  -- No leaf of it is empty.
+  pub no-empty-leaf : (f : AcceptedFile) (j : ℕ) → 1 ≤ j → j ≤ leaves (familyOf (reducedFile (f .file))) → 1 ≤ leafLength (familyOf (reducedFile (f .file))) j
   -- It reduces to itself.
   pub again : (f : AcceptedFile) → reducedFile (reducedFile (f .file)) ≡ reducedFile (f .file)
   -- Two files have equal reduced files exactly when they have the same m and, for every path, the same curve,
@@ -196,6 +198,7 @@ demand-three =
       is-bytes = λ f. reduced-bytes (f .file) (f .bytes) (f .accepted);
       is-accepted = λ f. reduced-accepted (f .file) (f .bytes) (f .accepted);
       keeps-curves = λ f. reduced-file-alike (f .file) (f .bytes) (f .accepted);
+      no-empty-leaf = λ f. reduced-file-measured (f .file) (f .bytes) (f .accepted);
       again = λ f. reduced-file-again (f .file) (f .bytes) (f .accepted);
       equal-if-alike = alike-equal;
       alike-if-equal = equal-alike;

@@ -50,7 +50,7 @@ written-below n g old new e room front back = sym (take-append-drop n new) ∙ r
         (λ k l. getD-drop n new k 0 ∙ back (n + k) (omega arith) ∙ sym (getD-drop n old k 0))
 
 -- a list over the ranges of a family, by its regions
-over-regions : (F : Family) (f : Range → ℕ) → map f (rangesOf F) ≡ tabulate (regionCount F) (λ k. f (rangeAt F k))
+pub over-regions : (F : Family) (f : Range → ℕ) → map f (rangesOf F) ≡ tabulate (regionCount F) (λ k. f (rangeAt F k))
 over-regions F f =
     map-tabulate (noRange F) f (rangesOf F)
     ∙ ap (λ (n : ℕ). tabulate n (λ k. f (getD (rangesOf F) k (noRange F)))) (ranges-length F)

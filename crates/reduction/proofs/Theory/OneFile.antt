@@ -1,18 +1,20 @@
 -- The reduced file is the one form of an accepted file: an accepted file with the same curves, the same for all files with these curves,
 -- and no longer than any of them.
-use Prim.Native.Nat.{ℕ, _≤_}
+use Prim.Native.Nat.{ℕ, zero, suc, _≤_}
 use mathlib.Core.List.{List}
 use mathlib.Core.Path.{_≡_, sym, _∙_, ap}
 use native.Mathlib.Omega.{arith}
 use lib.ListN.{length}
 use Rattle.reader.specs.Bytes.{IsBytes}
-use Rattle.reader.specs.Family.{familyOf, fileOf}
+use Rattle.reader.specs.Family.{leaves, leafLength, familyOf, fileOf}
 use Rattle.reader.specs.Causes.{Accepted}
 use Rattle.reader.specs.WellFormed.{WellFormed}
 use Rattle.reader.proofs.Accepting.{well-formed}
+use Rattle.reader.proofs.Parsed.{length-leaf}
 use Rattle.reader.proofs.Files.{file-length, file-bytes, read-back, file-accepted, accepted-written-back}
 use Rattle.reduction.specs.Reduction.{reducedFamily, reducedFile}
 use Rattle.reduction.specs.Alike.{Alike}
+use Rattle.reduction.proofs.Theory.WrittenFamily.{lengths-some}
 use Rattle.reduction.proofs.Theory.Accepted.{reduced-wellformed}
 use Rattle.reduction.proofs.Theory.OneForm.{reduced-alike, alike-equal, equal-alike, reduced-again, NoLarger, reduced-fits, reduced-smallest}
 
@@ -43,6 +45,15 @@ module _ (f : List ℕ) (bytes : IsBytes f) (accepted : Accepted f) where
   -- It has the same curves, and is its own reduced file.
   pub reduced-file-alike : Alike (familyOf f) (familyOf (reducedFile f))
   reduced-file-alike = rw reduced-read (reduced-alike (familyOf f) family)
+
+  -- None of its leaves is empty.
+  pub reduced-file-measured : (j : ℕ) → 1 ≤ j → j ≤ leaves (familyOf (reducedFile f)) → 1 ≤ leafLength (familyOf (reducedFile f)) j
+  unfolding reducedFamily
+  reduced-file-measured = rw reduced-read all
+    where
+      all : (j : ℕ) → 1 ≤ j → j ≤ leaves (reducedFamily (familyOf f)) → 1 ≤ leafLength (reducedFamily (familyOf f)) j
+      all zero some h = absurd (omega arith)
+      all (suc j) some h = rw (length-leaf (reducedFamily (familyOf f)) j) (lengths-some _ _ j (omega arith))
 
   pub reduced-file-again : reducedFile (reducedFile f) ≡ reducedFile f
   reduced-file-again = unfold reducedFile in ap fileOf (ap reducedFamily reduced-read ∙ reduced-again (familyOf f) family)
