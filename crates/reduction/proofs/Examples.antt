@@ -1,4 +1,4 @@
--- The worked examples E1 to E10, computed.
+-- The worked examples E1 to E10, and one with empty leaves, computed.
 use Prim.Native.Nat.{ℕ}
 use mathlib.Core.Logic.{_≢_}
 use mathlib.Core.List.{List, [], _∷_}
@@ -35,6 +35,16 @@ five =
       regions = triple 2 2 1 ∷ triple 4 4 0 ∷ triple 5 5 0 ∷ [];
     }
 
+-- the eight-peptide family on a list of seven proteins, of which the first, the third and the last have nothing measured:
+-- the second region has no peptide, and the third and the fourth have the same
+unfoldable pub unmeasured : Family
+unmeasured =
+    record {
+      peptides = 8;
+      lengths = 0 ∷ 2 ∷ 0 ∷ 3 ∷ 1 ∷ 2 ∷ 0 ∷ [];
+      regions = triple 1 4 3 ∷ triple 1 1 0 ∷ triple 2 3 5 ∷ triple 2 2 2 ∷ triple 4 4 1 ∷ triple 5 7 3 ∷ triple 6 6 0 ∷ [];
+    }
+
 -- one leaf of m peptides, with the given regions
 unfoldable pub oneLeaf : ℕ → List Region → Family
 oneLeaf m regions = record { peptides = m; lengths = m ∷ []; regions = regions }
@@ -61,7 +71,7 @@ fullPath = 7 ∷ 3 ∷ 1 ∷ 4 ∷ 6 ∷ 2 ∷ 5 ∷ 8 ∷ []
 
 -- the reduced file of a family's file; naming it opens every definition on the way
 reducedOf : Family → List ℕ
-unfolding triple eightWith five oneLeaf reducedEight reducedThree fullPath tabulate sum numberAt bytesOf peptidesUpTo lengthAt regionAt familyOf regionFields fields mark fileOf rangeOf rangesOf has card count some those sumOver within inside justInside parts outermost outside totalWithin total value bound full isTaken takenBytes selected takenOf among entry curveValues markAt curveMarks largestUpTo cutOf rising falling grid firstOf lastOf dead live livePeptides hasStretch smallestZ merged stretchAt stretches room isKept isDeadRun reducedAt reduced endsLeaf leafLengths regionOf writtenFamily reducedFamily reducedFile
+unfolding triple eightWith five unmeasured oneLeaf reducedEight reducedThree fullPath tabulate sum numberAt bytesOf peptidesUpTo lengthAt regionAt familyOf regionFields fields mark fileOf rangeOf rangesOf has card count some those sumOver within inside justInside parts outermost outside totalWithin total value bound full isTaken takenBytes selected takenOf among entry curveValues markAt curveMarks largestUpTo cutOf rising falling grid firstOf lastOf dead live livePeptides hasStretch smallestZ merged stretchAt stretches room isKept isDeadRun reducedAt reduced endsLeaf leafLengths regionOf writtenFamily reducedFamily reducedFile
 reducedOf F = reducedFile (fileOf F)
 
 -- E1 to E10, on the definitions.
@@ -103,6 +113,19 @@ examples =
       E9 = refl;
       E10 = refl;
     }
+
+-- The family with empty leaves has the values, the marks and the reduced file of the eight-peptide family;
+-- of its regions those on the leaves 4 and 6 are taken.
+pub record EmptyLeafExample : Type 0 where
+  pub curve :
+      (curveValues unmeasured fullPath ≡ 0 ∷ 0 ∷ 1 ∷ 2 ∷ 2 ∷ 3 ∷ 4 ∷ 4 ∷ 4 ∷ [])
+      × (curveMarks unmeasured fullPath ≡ 0 ∷ 1 ∷ 1 ∷ 0 ∷ 1 ∷ 1 ∷ 0 ∷ 0 ∷ [])
+  pub taken : takenOf unmeasured (1 ∷ 1 ∷ 1 ∷ 1 ∷ 1 ∷ 1 ∷ 1 ∷ 1 ∷ []) ≡ 0 ∷ 0 ∷ 0 ∷ 0 ∷ 1 ∷ 0 ∷ 1 ∷ []
+  pub reduction : reducedFile (fileOf unmeasured) ≡ reducedEight
+
+pub empty-leaf-example : EmptyLeafExample
+unfolding reducedOf
+empty-leaf-example = record { curve = (refl, refl); taken = refl; reduction = refl }
 
 -- No copy of its input and no one fixed file is the reduction: it takes E10 to another file, and E3 and E8 to different ones.
 pub not-a-copy : reducedFile (fileOf (oneLeaf 3 (triple 1 1 5 ∷ []))) ≢ fileOf (oneLeaf 3 (triple 1 1 5 ∷ []))
