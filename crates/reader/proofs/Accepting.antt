@@ -18,11 +18,11 @@
 --   part-accepted, part-refused         the part with the regions: of an accepted file from their offset on, of any other nothing
 --   start-accepted, start-refused       where that part begins: at the regions' offset, or at the file's first byte
 --   part-given                          a slice at that place with these bytes is what `regions` has to hand back
-use Prim.Native.Nat.{ℕ, zero, suc, _+_, _-_, _<_, _≤_}
+use Prim.Native.Nat.{ℕ, zero, suc, _+_, _<_, _≤_}
 use native.Mathlib.Omega.{arith}
 use native.Mathlib.Numerals.{add-one}
 use mathlib.Core.Bool.{Bool, true, false, cond}
-use mathlib.Core.List.{List, [], _∷_, _++_}
+use mathlib.Core.List.{List, [], _∷_}
 use mathlib.Core.Path.{_≡_, refl, sym, ap, _∙_}
 use mathlib.Core.Logic.{inl, inr, ⊎-elim}
 use lib.ListN.{length, take, drop}

@@ -2,13 +2,11 @@
 --   below-suc, below-next   what is below n + 1 is n or below n; for `suc n`, and for a sum `k + 1`
 --   last-below              what is below n is at most n - 1
 --   none-below-zero         below 0 no number passes
---   some-more               some number below n + 1 passes: one below n does, or n
 --   none-more               a loop that has found none so far, and none here, has found none below n + 1
 --   some-at                 if a number below n passes, some number does
 --   none-at                 where none passes, each number below n fails
 --   none-below              if each number below n fails, none passes
 --   found                   the number that passes, where some number does
---   some-below-more         one that passes below a limit is below any higher limit
 --   first-none              where none passes, `firstBelow` is 0
 --   first-at                the first number that passes is k, if k does and none below it; it is given as k + 1
 --   count-below-same        tests that agree below n pass as many numbers
@@ -18,7 +16,7 @@ use Prim.Native.Nat.{ℕ, zero, suc, _+_, _-_, _<_, _≤_}
 use native.Mathlib.Nat.{not-suc-le-zero, eq-or-lt-of-le, le-of-suc-le-suc}
 use native.Mathlib.Numerals.{add-one}
 use native.Mathlib.Omega.{arith}
-use mathlib.Core.Bool.{Bool, true, false, _||_}
+use mathlib.Core.Bool.{Bool, true, false}
 use mathlib.Core.Path.{_≡_, refl}
 use mathlib.Core.Logic.{_⊎_, ⊎-elim}
 use Rattle.reader.specs.Lists.{someBelow, countBelow, firstBelow}
@@ -37,10 +35,6 @@ module _ (p : ℕ → Bool) where
   pub none-below-zero : someBelow 0 p ≡ false
   unfolding someBelow
   none-below-zero = refl
-
-  pub some-more : (n : ℕ) → someBelow (n + 1) p ≡ someBelow n p || p n
-  unfolding someBelow
-  some-more n = rw add-one refl
 
   pub none-more : (n : ℕ) → someBelow n p ≡ false → p n ≡ false → someBelow (n + 1) p ≡ false
   unfolding someBelow
@@ -71,9 +65,6 @@ module _ (p : ℕ → Bool) where
       (λ a. let f = found n a in (f .0, omega (arith, f .1), f .2))
       (λ b. (n, omega arith, b))
       (or-either (someBelow n p) (p n) h)
-
-  pub some-below-more : (k n : ℕ) → k ≤ n → someBelow k p ≡ true → someBelow n p ≡ true
-  some-below-more k n h t = let f = found k t in some-at n (f .0) (omega (arith, f .1)) (f .2)
 
   pub first-none : (n : ℕ) → someBelow n p ≡ false → firstBelow n p ≡ 0
   unfolding someBelow firstBelow
