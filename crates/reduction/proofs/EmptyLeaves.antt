@@ -2,7 +2,7 @@
 -- That no leaf of a reduced file is empty is a sentence of demand 3 (`DemandThree`).
 use Prim.Native.Nat.{ℕ, _≤_, _<_}
 use mathlib.Core.Bool.{Bool, false, and-false, _&&_, _||_}
-use mathlib.Core.List.{List, [], _∷_, _++_, map}
+use mathlib.Core.List.{List, [], _∷_, _++_, map, map-append}
 use mathlib.Core.Path.{_≡_, refl, sym, ap, _∙_}
 use native.Mathlib.Omega.{arith}
 use lib.Dec.{eqb}
@@ -77,10 +77,6 @@ same-without m L x R empty =
       back = λ A h. respects-facts m (L ++ x ∷ R) A (admissible-with m A L x R (no-count m A x empty) (respects-holds m (L ++ R) A h));
     }
 
-map-join : {A B : Type 0} (f : A → B) (L R : List A) → map f (L ++ R) ≡ map f L ++ map f R
-map-join f [] R = refl
-map-join f (x ∷ L) R = ap (λ l. f x ∷ l) (map-join f L R)
-
 -- the ranges of a family come from its lengths and regions alone
 ranges-from : (F G : Family) (regions : List Region) → F .lengths ≡ G .lengths → G .regions ≡ regions → rangesOf G ≡ map (rangeOf F) regions
 unfolding rangesOf rangeOf peptidesUpTo
@@ -104,10 +100,10 @@ module _ (f g : AcceptedFile) (s : Struck (familyOf (f .file)) (familyOf (g .fil
   it = rangeOf F (s .struck)
 
   had : rangesOf F ≡ before ++ it ∷ after
-  had = ranges-from F F (s .before ++ s .struck ∷ s .after) refl (s .had) ∙ map-join (rangeOf F) (s .before) (s .struck ∷ s .after)
+  had = ranges-from F F (s .before ++ s .struck ∷ s .after) refl (s .had) ∙ map-append (rangeOf F) (s .before) (s .struck ∷ s .after)
 
   left : rangesOf G ≡ before ++ after
-  left = ranges-from F G (s .before ++ s .after) (s .lengths) (s .left) ∙ map-join (rangeOf F) (s .before) (s .after)
+  left = ranges-from F G (s .before ++ s .after) (s .lengths) (s .left) ∙ map-append (rangeOf F) (s .before) (s .after)
 
   -- the region is that of its place
   there : region F (length (s .before)) ≡ s .struck
