@@ -150,6 +150,7 @@ pub fn reduce(file: &[u8], room: usize) -> u16 {
             };
             assert_eq!(answer, expected);
             assert_eq!(out, with_front(&reduced, &before));
+            guarded::has_no_empty_leaf(&out);
         }
         Err(number) => {
             let expected = phf::Reduced {

@@ -1,12 +1,13 @@
 //! Every set of peptides of a small family: what a bound means, with no recursion over regions.
 
-use crate::reference::{pieces, Family};
+use crate::reference::{pieces, Family, Region};
 
 /// The admissible sets, each as a number whose bit p - 1 says whether peptide p is in it.
 pub struct Admissible {
     sets: Vec<u32>,
 }
 
+/// The peptides from `low` to `high`; none if that is just before `low`.
 pub fn mask(low: usize, high: usize) -> u32 {
     (low..=high).map(|p| 1u32 << (p - 1)).sum()
 }
@@ -55,6 +56,46 @@ impl Admissible {
             }
         }
         bounds
+    }
+}
+
+fn strictly_inside(r: &Region, q: &Region) -> bool {
+    q.first <= r.first && r.last <= q.last && (r.first, r.last) != (q.first, q.last)
+}
+
+/// The taken regions by every set: the inside total of a region is the largest count of its selected peptides in any set
+/// that respects what is strictly inside it by leaf numbers.
+pub struct Taking<'a> {
+    family: &'a Family,
+    insides: Vec<Admissible>,
+}
+
+impl Taking<'_> {
+    pub fn of(family: &Family) -> Taking<'_> {
+        let inside = |q: &Region| {
+            let mut inner = family.clone();
+            inner.regions.retain(|r| strictly_inside(r, q));
+            Admissible::of(&inner)
+        };
+        let insides = family.regions.iter().map(inside).collect();
+        Taking { family, insides }
+    }
+
+    /// A byte for each region: 1 if its z is less than its inside total, and that of no region around it is.
+    pub fn taken(&self, selection: u32) -> Vec<u8> {
+        let regions = &self.family.regions;
+        let full: Vec<bool> = pieces(self.family)
+            .iter()
+            .zip(&self.insides)
+            .map(|(r, sets)| r.z < sets.bound(selection & mask(r.low, r.high)) as usize)
+            .collect();
+        let free = |i: usize| {
+            let around = |j: usize| strictly_inside(&regions[i], &regions[j]);
+            !(0..regions.len()).any(|j| full[j] && around(j))
+        };
+        (0..regions.len())
+            .map(|i| (full[i] && free(i)) as u8)
+            .collect()
     }
 }
 

@@ -21,6 +21,25 @@ fn lengths(random: &mut Random, m: usize, n: usize) -> Vec<u16> {
         .collect()
 }
 
+/// Puts empty leaves among the others: none, a few or more than there are peptides, each anywhere or all in a row.
+fn strew_empty(random: &mut Random, lengths: &mut Vec<u16>, m: usize) {
+    let many = match random.below(4) {
+        0 | 1 => 0,
+        2 => random.between(1, 4),
+        _ => random.between(1, m + 8),
+    };
+    let in_a_row = match random.below(6) {
+        0 => Some(0),
+        1 => Some(lengths.len()),
+        2 => Some(random.between(0, lengths.len())),
+        _ => None,
+    };
+    for _ in 0..many.min(4096 - lengths.len()) {
+        let at = in_a_row.unwrap_or_else(|| random.between(0, lengths.len()));
+        lengths.insert(at, 0);
+    }
+}
+
 /// How the z of a region is chosen.
 #[derive(Clone, Copy)]
 pub enum Bounds {
@@ -107,7 +126,7 @@ fn with_bounds(
     }
 }
 
-/// A random family with m peptides.
+/// A random family with m peptides, often with empty leaves.
 pub fn random_family(random: &mut Random, m: usize) -> Family {
     let n = match random.below(4) {
         0 => m,
@@ -119,11 +138,12 @@ pub fn random_family(random: &mut Random, m: usize) -> Family {
         1 => Bounds::Small,
         _ => Bounds::Mixed,
     };
-    let lengths = lengths(random, m, n);
+    let mut lengths = lengths(random, m, n);
+    strew_empty(random, &mut lengths, m);
     let mut ranges = Vec::new();
     if !random.chance(1, 20) {
         let full = random.chance(1, 5);
-        nest(random, 1, n, 0, full, &mut ranges);
+        nest(random, 1, lengths.len(), 0, full, &mut ranges);
     }
     with_bounds(random, lengths, &ranges, bounds)
 }
@@ -138,11 +158,23 @@ fn halves(first: usize, last: usize, out: &mut Vec<(usize, usize)>) {
     }
 }
 
-/// n leaves of one length, and the binary tree with a region for each leaf and for each pair of neighbours: 2n - 1 regions.
-pub fn binary_tree(random: &mut Random, n: usize, length: usize, bounds: Bounds) -> Family {
+/// The binary tree on n leaves, with a region for each leaf and for each pair of neighbours: 2n - 1 regions.
+pub fn binary_tree_on(random: &mut Random, lengths: Vec<u16>, bounds: Bounds) -> Family {
     let mut ranges = Vec::new();
-    halves(1, n, &mut ranges);
-    with_bounds(random, vec![length as u16; n], &ranges, bounds)
+    halves(1, lengths.len(), &mut ranges);
+    with_bounds(random, lengths, &ranges, bounds)
+}
+
+/// The binary tree on n leaves of one length.
+pub fn binary_tree(random: &mut Random, n: usize, length: usize, bounds: Bounds) -> Family {
+    binary_tree_on(random, vec![length as u16; n], bounds)
+}
+
+/// n leaves, all empty but one, which has m peptides.
+pub fn all_but_one_empty(n: usize, leaf: usize, m: u16) -> Vec<u16> {
+    let mut lengths = vec![0; n];
+    lengths[leaf - 1] = m;
+    lengths
 }
 
 /// A binary tree as wide and as deep as any: 4,096 leaves, 8,191 regions, 64 of them nested. The first 51 leaves are split
@@ -210,11 +242,11 @@ fn add(file: &mut [u8], at: usize, by: u16) {
 }
 
 /// How many kinds of damage `damage` knows.
-pub const DAMAGES: usize = 24;
+pub const DAMAGES: usize = 25;
 
 /// Damages a file near the edge of some cause. What comes of it the reference says: one damage can hide or undo another.
 pub fn damage(random: &mut Random, kind: usize, file: &mut Vec<u8>) {
-    let (m, n, k) = (get(file, 4), get(file, 6), get(file, 8));
+    let (n, k) = (get(file, 6), get(file, 8));
     let leaf = 16 + 2 * random.below(n.max(1));
     let region = 16 + 2 * n + 6 * random.below(k.max(1));
     match kind {
@@ -226,7 +258,7 @@ pub fn damage(random: &mut Random, kind: usize, file: &mut Vec<u8>) {
             }
         }
         2 => put(file, 4, [0, 4096, 4097, 65535][random.below(4)]),
-        3 => put(file, 6, [0, m, m + 1, 65535][random.below(4)]),
+        3 => put(file, 6, [0, 4096, 4097, 65535][random.below(4)]),
         4 => put(file, 8, [2 * n - n.min(1), 2 * n, 65535][random.below(3)]),
         5 => put(file, 10, [15, 17, 0, 16][random.below(4)]),
         6 => put(file, 12, (16 + 2 * n + random.below(3)).saturating_sub(1)),
@@ -242,7 +274,7 @@ pub fn damage(random: &mut Random, kind: usize, file: &mut Vec<u8>) {
         10 => put(file, leaf, 0),
         11 => add(file, leaf, 1),
         12 => {
-            // the sum stays, unless both are the same leaf
+            // the sum stays, unless the other leaf is empty and wraps around
             let other = 16 + 2 * random.below(n.max(1));
             add(file, leaf, 1);
             add(file, other, u16::MAX);
@@ -279,6 +311,13 @@ pub fn damage(random: &mut Random, kind: usize, file: &mut Vec<u8>) {
             }
         }
         22 => put(file, leaf, 65535),
+        23 => {
+            // a leaf becomes empty and another one gets its peptides, which is no damage
+            let other = 16 + 2 * random.below(n.max(1));
+            let length = get(file, leaf) as u16;
+            put(file, leaf, 0);
+            add(file, other, length);
+        }
         _ => file.clear(),
     }
 }
@@ -312,9 +351,9 @@ pub fn file(lengths: &[u16], regions: &[(u16, u16, u16)]) -> Vec<u8> {
     file_of(&family(lengths, regions))
 }
 
-// Every family with m peptides and each z up to the region's size: a larger z says no more.
+// Every family with m peptides.
 
-/// The ways to cut m peptides into leaves.
+/// The ways to cut m peptides into leaves that have some.
 fn all_lengths(m: usize) -> Vec<Vec<u16>> {
     (0..1usize << (m - 1))
         .map(|cuts| {
@@ -327,6 +366,22 @@ fn all_lengths(m: usize) -> Vec<Vec<u16>> {
                 }
             }
             lengths
+        })
+        .collect()
+}
+
+/// The ways to cut m peptides into n leaves, of which some may be empty.
+fn all_lengths_of(m: u16, n: usize) -> Vec<Vec<u16>> {
+    if n == 1 {
+        return vec![vec![m]];
+    }
+    (0..=m)
+        .flat_map(|first| {
+            let mut cuts = all_lengths_of(m - first, n - 1);
+            for lengths in &mut cuts {
+                lengths.insert(0, first);
+            }
+            cuts
         })
         .collect()
 }
@@ -359,35 +414,45 @@ fn all_ranges(n: usize) -> Vec<Vec<(usize, usize)>> {
     found
 }
 
-pub fn all_families(m: usize) -> Vec<Family> {
+/// Every family on these leaves with each z up to so many above its region's size.
+fn all_families_on(lengths: &[u16], above: usize) -> Vec<Family> {
     let mut families = Vec::new();
-    for lengths in all_lengths(m) {
-        for ranges in all_ranges(lengths.len()) {
-            let sizes: Vec<usize> = ranges
+    for ranges in all_ranges(lengths.len()) {
+        let most: Vec<usize> = ranges
+            .iter()
+            .map(|(first, last)| lengths[first - 1..*last].iter().sum::<u16>() as usize + above)
+            .collect();
+        let mut zs = vec![0; ranges.len()];
+        loop {
+            let regions: Vec<(u16, u16, u16)> = ranges
                 .iter()
-                .map(|(first, last)| {
-                    lengths[first - 1..*last]
-                        .iter()
-                        .map(|length| *length as usize)
-                        .sum()
-                })
+                .zip(&zs)
+                .map(|((first, last), z)| (*first as u16, *last as u16, *z as u16))
                 .collect();
-            let mut zs = vec![0; ranges.len()];
-            loop {
-                let regions: Vec<(u16, u16, u16)> = ranges
-                    .iter()
-                    .zip(&zs)
-                    .map(|((first, last), z)| (*first as u16, *last as u16, *z as u16))
-                    .collect();
-                families.push(family(&lengths, &regions));
-                // the next choice of z, as a number whose digits go up to the sizes
-                let Some(i) = (0..zs.len()).find(|i| zs[*i] < sizes[*i]) else {
-                    break;
-                };
-                zs[i] += 1;
-                zs[..i].fill(0);
-            }
+            families.push(family(lengths, &regions));
+            // the next choice of z, as a number whose digits go up to the most
+            let Some(i) = (0..zs.len()).find(|i| zs[*i] < most[*i]) else {
+                break;
+            };
+            zs[i] += 1;
+            zs[..i].fill(0);
         }
     }
     families
+}
+
+/// Without empty leaves, and with each z up to the region's size: a larger z says no more.
+pub fn all_families(m: usize) -> Vec<Family> {
+    all_lengths(m)
+        .iter()
+        .flat_map(|lengths| all_families_on(lengths, 0))
+        .collect()
+}
+
+/// On n leaves, empty ones among them, and with each z up to one above the region's size.
+pub fn all_families_of(m: u16, n: usize) -> Vec<Family> {
+    all_lengths_of(m, n)
+        .iter()
+        .flat_map(|lengths| all_families_on(lengths, 1))
+        .collect()
 }

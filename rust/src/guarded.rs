@@ -40,6 +40,25 @@ pub fn reduce(file: &[u8], out: &mut [u8]) -> Reduced {
     reading(file, |file| writing(out, |out| phf::reduce(file, out)))
 }
 
+/// The reduced file of an accepted one, in a room just as long as that. No leaf of it is empty.
+pub fn reduced(file: &[u8]) -> Vec<u8> {
+    let mut out = vec![0xEE; file.len()];
+    let answer = reduce(file, &mut out);
+    assert_eq!(answer.number, 0);
+    out.truncate(answer.length as usize);
+    assert_eq!(out[14..16], answer.length.to_le_bytes());
+    assert_eq!(out[8..10], answer.regions.to_le_bytes());
+    has_no_empty_leaf(&out);
+    out
+}
+
+/// Of a reduced file.
+pub fn has_no_empty_leaf(reduced: &[u8]) {
+    let leaves = u16::from_le_bytes([reduced[6], reduced[7]]) as usize;
+    let mut lengths = reduced[16..16 + 2 * leaves].chunks_exact(2);
+    assert!(lengths.all(|two| two != [0, 0]), "an empty leaf");
+}
+
 pub fn same(first: &[u8], second: &[u8]) -> Compared {
     reading(first, |first| {
         reading(second, |second| phf::same(first, second))

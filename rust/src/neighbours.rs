@@ -9,7 +9,8 @@ use std::collections::{BTreeMap, BTreeSet};
 /// A region's first and last peptide; in file order.
 type Place = (usize, Reverse<usize>);
 
-/// A family by its peptides: where leaves end, and the z of each region.
+/// A family by its peptides: where leaves end, and the smallest z of the regions at each place. Empty leaves and regions
+/// without a peptide say nothing, and are left out.
 struct Line {
     peptides: usize,
     ends: BTreeSet<usize>,
@@ -23,14 +24,17 @@ impl Line {
             end += *length as usize;
             end
         });
-        Line {
+        let mut line = Line {
             peptides: family.peptides as usize,
             ends: ends.collect(),
-            regions: pieces(family)
-                .iter()
-                .map(|r| ((r.low, Reverse(r.high)), r.z as u16))
-                .collect(),
+            regions: BTreeMap::new(),
+        };
+        for r in pieces(family).iter().filter(|r| r.low <= r.high) {
+            let z = line.regions.entry((r.low, Reverse(r.high)));
+            let z = z.or_insert(u16::MAX);
+            *z = (*z).min(r.z as u16);
         }
+        line
     }
 
     /// The family; leaves end where regions ask for it, too.
@@ -100,6 +104,61 @@ impl Line {
     }
 }
 
+/// Puts a leaf without a peptide after so many others. No region begins or ends with it.
+fn put_leaf(family: &mut Family, after: u16) {
+    family.lengths.insert(after as usize, 0);
+    for region in &mut family.regions {
+        region.first += (region.first > after) as u16;
+        region.last += (region.last > after) as u16;
+    }
+}
+
+/// Puts a region with this leaf and what the other region has around that one. One of the two gets a z that says no more.
+fn put_around(random: &mut Random, family: &mut Family, inner: usize, leaf: u16) {
+    let inner = &mut family.regions[inner];
+    let mut outer = Region {
+        first: inner.first.min(leaf),
+        last: inner.last.max(leaf),
+        z: inner.z,
+    };
+    let looser = if random.chance(1, 2) {
+        &mut outer
+    } else {
+        inner
+    };
+    looser.z = looser.z.saturating_add(random.below(3) as u16);
+    family.regions.push(outer);
+}
+
+/// Puts an empty leaf into the family; with it a region that says nothing, or a second region for the peptides of a
+/// region beside it.
+fn put_empty_leaf(random: &mut Random, family: &mut Family) {
+    let after = random.between(0, family.lengths.len()) as u16;
+    put_leaf(family, after);
+    let leaf = after + 1;
+    // in file order the first of these is the outermost
+    let before = family.regions.iter().position(|r| r.last == after);
+    let behind = family.regions.iter().position(|r| r.first == leaf + 1);
+    match (random.below(4), before, behind) {
+        (0, _, _) => family.regions.push(Region {
+            first: leaf,
+            last: leaf,
+            z: random.below(3) as u16,
+        }),
+        (1, Some(inner), _) | (2, _, Some(inner)) => put_around(random, family, inner, leaf),
+        _ => {}
+    }
+    family.regions.sort_by_key(|r| (r.first, Reverse(r.last)));
+}
+
+/// The family with up to three empty leaves; all bounds stay what they are.
+fn with_empty_leaves(random: &mut Random, mut family: Family) -> Family {
+    for _ in 0..random.below(4) {
+        put_empty_leaf(random, &mut family);
+    }
+    family
+}
+
 /// The bound of all peptides of a place.
 fn bound_of(bounds: &[u16], (low, Reverse(high)): Place) -> u16 {
     bounds[mask(low, high) as usize]
@@ -130,7 +189,7 @@ pub fn rewritten(random: &mut Random, family: &Family, bounds: &[u16]) -> Family
         }
         _ => {}
     }
-    line.family()
+    with_empty_leaves(random, line.family())
 }
 
 /// A family that says a little more or less; it may come to the same.
@@ -160,5 +219,5 @@ pub fn altered(random: &mut Random, family: &Family, bounds: &[u16]) -> Family {
         (_, Some(place), _) => line.move_an_end(random, place),
         _ => {}
     }
-    line.family()
+    with_empty_leaves(random, line.family())
 }

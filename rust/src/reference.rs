@@ -52,7 +52,7 @@ pub fn check(file: &[u8]) -> Result<Family, u16> {
     if m == 0 || m > 4096 {
         return Err(2);
     }
-    if n == 0 || n > m {
+    if n == 0 || n > 4096 {
         return Err(3);
     }
     if k > 2 * n - 1 {
@@ -64,7 +64,7 @@ pub fn check(file: &[u8]) -> Result<Family, u16> {
     }
     let lengths: Vec<u16> = (0..n).map(|j| number(16 + 2 * j) as u16).collect();
     let sum: usize = lengths.iter().map(|length| *length as usize).sum();
-    if lengths.contains(&0) || sum != m {
+    if sum != m {
         return Err(6);
     }
     let regions: Vec<Region> = (0..k)
@@ -152,8 +152,10 @@ fn check_path(m: u16, path: &[u16]) -> Result<(), Refusal> {
     }
 }
 
-// Pieces of the line of peptides, each with its z: the regions of a family, or the stretches of a reduction.
+// Pieces of a line, each with its z: the regions of a family by their leaves or by their peptides, the stretches of a
+// reduction by their peptides.
 
+/// From one place of the line to another. One without a place ends just before it begins.
 #[derive(Clone, Copy, Debug, PartialEq, Eq)]
 pub struct Piece {
     pub low: usize,
@@ -162,8 +164,8 @@ pub struct Piece {
 }
 
 impl Piece {
-    fn has(&self, p: usize) -> bool {
-        self.low <= p && p <= self.high
+    fn has(&self, place: usize) -> bool {
+        self.low <= place && place <= self.high
     }
 
     fn strictly_inside(&self, other: &Piece) -> bool {
@@ -173,22 +175,44 @@ impl Piece {
     }
 }
 
-/// The peptides of each region, from first to last, in file order.
+/// How many peptides the leaves up to this one have.
+fn up_to(family: &Family, leaf: usize) -> usize {
+    family.lengths[..leaf].iter().map(|l| *l as usize).sum()
+}
+
+/// The peptides of each region, from first to last, in file order. Two regions can have the same, and a region none.
 pub fn pieces(family: &Family) -> Vec<Piece> {
-    let up_to = |leaf: u16| -> usize {
-        family.lengths[..leaf as usize]
-            .iter()
-            .map(|length| *length as usize)
-            .sum()
-    };
     family
         .regions
         .iter()
         .map(|r| Piece {
-            low: up_to(r.first - 1) + 1,
-            high: up_to(r.last),
+            low: up_to(family, r.first as usize - 1) + 1,
+            high: up_to(family, r.last as usize),
             z: r.z as usize,
         })
+        .collect()
+}
+
+/// The leaves of each region, in file order: nesting is judged on leaf numbers.
+pub fn leaf_pieces(family: &Family) -> Vec<Piece> {
+    family
+        .regions
+        .iter()
+        .map(|r| Piece {
+            low: r.first as usize,
+            high: r.last as usize,
+            z: r.z as usize,
+        })
+        .collect()
+}
+
+/// The leaf of each peptide, from peptide 1 on: the first leaf up to which the lengths add to at least its number.
+fn leaves_of_peptides(family: &Family) -> Vec<usize> {
+    let sums: Vec<usize> = (1..=family.lengths.len())
+        .map(|leaf| up_to(family, leaf))
+        .collect();
+    (1..=family.peptides as usize)
+        .map(|p| sums.iter().position(|sum| *sum >= p).unwrap() + 1)
         .collect()
 }
 
@@ -203,7 +227,8 @@ pub struct Forest {
 }
 
 impl Forest {
-    pub fn new(m: usize, pieces: Vec<Piece>) -> Forest {
+    /// Of pieces with a place at least; `places` has the place of each peptide, from peptide 1 on.
+    fn new(places: &[usize], pieces: Vec<Piece>) -> Forest {
         let count = pieces.len();
         // the smallest piece strictly around each
         let parents: Vec<Option<usize>> = (0..count)
@@ -221,16 +246,16 @@ impl Forest {
                 None => outer.push(i),
             }
         }
-        // each peptide counts at the smallest piece that has it
+        // each peptide counts at the smallest piece that has its place
         let mut own = vec![Vec::new(); count];
         let mut loose = Vec::new();
-        for p in 1..=m {
+        for (i, place) in places.iter().enumerate() {
             let smallest = (0..count)
-                .filter(|j| pieces[*j].has(p))
+                .filter(|j| pieces[*j].has(*place))
                 .min_by_key(|j| pieces[*j].high - pieces[*j].low);
             match smallest {
-                Some(j) => own[j].push(p),
-                None => loose.push(p),
+                Some(j) => own[j].push(i + 1),
+                None => loose.push(i + 1),
             }
         }
         Forest {
@@ -244,7 +269,7 @@ impl Forest {
     }
 
     pub fn of(family: &Family) -> Forest {
-        Forest::new(family.peptides as usize, pieces(family))
+        Forest::new(&leaves_of_peptides(family), leaf_pieces(family))
     }
 
     fn around(&self, i: usize) -> Vec<usize> {
@@ -397,7 +422,8 @@ pub fn reduced(family: &Family) -> Family {
             live[p] = false;
         }
     }
-    let stretches = Forest::new(m, stretches(&regions, &live));
+    let peptides: Vec<usize> = (1..=m).collect();
+    let stretches = Forest::new(&peptides, stretches(&regions, &live));
     let mut kept: Vec<Piece> = Vec::new();
     // step 3: the room is the inside total of the live peptides
     let (_, rooms) = stretches.bound(&live);

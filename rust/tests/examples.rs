@@ -3,7 +3,7 @@
 //! here was copied from these two texts.
 
 use phf_tests::families::{eight_peptides, file};
-use phf_tests::guarded;
+use phf_tests::guarded::{self, reduced};
 use phf_tests::reference::file_of;
 
 fn curve(file: &[u8], path: &[u16]) -> (Vec<u16>, Vec<u8>) {
@@ -12,16 +12,6 @@ fn curve(file: &[u8], path: &[u16]) -> (Vec<u16>, Vec<u8>) {
     let answer = guarded::curve(file, path, &mut values, &mut marks);
     assert_eq!((answer.number, answer.place), (0, 0));
     (values, marks)
-}
-
-fn reduced(file: &[u8]) -> Vec<u8> {
-    let mut out = vec![0xEE; file.len()];
-    let answer = guarded::reduce(file, &mut out);
-    assert_eq!(answer.number, 0);
-    out.truncate(answer.length as usize);
-    assert_eq!(out[14..16], answer.length.to_le_bytes());
-    assert_eq!(out[8..10], answer.regions.to_le_bytes());
-    out
 }
 
 fn hexadecimal(text: &str) -> Vec<u8> {

@@ -2,42 +2,68 @@
 
 use phf_tests::compare;
 use phf_tests::enumeration::Admissible;
-use phf_tests::families::{all_families, random_family};
-use phf_tests::guarded;
+use phf_tests::families::{all_families, all_families_of, random_family};
+use phf_tests::guarded::{self, reduced};
 use phf_tests::neighbours::{altered, rewritten};
 use phf_tests::random::{cases, Random};
 use phf_tests::reference::{check, file_of, Family};
 use std::cell::Cell;
 use std::collections::HashMap;
 
-fn reduced(file: &[u8]) -> Vec<u8> {
-    let mut out = vec![0xEE; file.len()];
-    let answer = guarded::reduce(file, &mut out);
-    assert_eq!(answer.number, 0);
-    out.truncate(answer.length as usize);
-    out
-}
-
-/// Equal reductions exactly when the bounds of all selections agree.
-fn told_apart(families: impl IntoIterator<Item = Family>) {
-    let mut by_bounds: HashMap<(usize, Vec<u16>), Vec<u8>> = HashMap::new();
+/// Equal reductions, and the answer yes, exactly when the bounds of all selections agree; of the files with the same bounds
+/// the first.
+fn told_apart(families: impl IntoIterator<Item = Family>) -> Vec<Vec<u8>> {
+    let mut by_bounds: HashMap<(usize, Vec<u16>), Known> = HashMap::new();
     let mut by_file: HashMap<Vec<u8>, (usize, Vec<u16>)> = HashMap::new();
     for family in families {
-        let m = family.peptides as usize;
-        let bounds = (m, Admissible::of(&family).all_bounds(m));
-        let file = reduced(&file_of(&family));
-        let first = by_bounds
-            .entry(bounds.clone())
-            .or_insert_with(|| file.clone());
-        assert_eq!(*first, file, "one family in two reduced files");
-        let told = by_file.entry(file).or_insert_with(|| bounds.clone());
+        let new = Known::new(family);
+        let bounds = (new.family.peptides as usize, new.bounds.clone());
+        let told = by_file
+            .entry(new.reduced.clone())
+            .or_insert_with(|| bounds.clone());
         assert_eq!(*told, bounds, "two families in one reduced file");
+        let Some(first) = by_bounds.get(&bounds) else {
+            by_bounds.insert(bounds, new);
+            continue;
+        };
+        assert_eq!(
+            first.reduced, new.reduced,
+            "one family in two reduced files"
+        );
+        assert_eq!(answer(&first.file, &new.file), 1);
     }
+    by_bounds.into_values().map(|known| known.file).collect()
+}
+
+/// What the comparison of two accepted files says.
+fn answer(first: &[u8], second: &[u8]) -> u16 {
+    let answer = guarded::same(first, second);
+    assert_eq!(answer.number, 0);
+    answer.same
+}
+
+/// No two of these files are the same.
+fn all_different(files: &[Vec<u8>]) {
+    for (i, first) in files.iter().enumerate() {
+        for (j, second) in files.iter().enumerate() {
+            assert_eq!(answer(first, second), (i == j) as u16);
+        }
+    }
+}
+
+/// Every family with up to m peptides and n leaves, empty ones among them.
+fn all_up_to(m: u16, n: usize) -> impl Iterator<Item = Family> {
+    (1..=m).flat_map(move |m| (1..=n).flat_map(move |n| all_families_of(m, n)))
 }
 
 #[test]
 fn every_family_up_to_four_peptides() {
-    told_apart((1..=4).flat_map(all_families));
+    told_apart((1..=4).flat_map(all_families).chain(all_up_to(3, 3)));
+}
+
+#[test]
+fn every_family_up_to_three_peptides_and_three_leaves() {
+    all_different(&told_apart(all_up_to(3, 3)));
 }
 
 #[test]
