@@ -1,7 +1,9 @@
 //! Declined calls: each cause at its edge, the first of several, and nothing written.
 
 use phf_tests::compare;
-use phf_tests::families::{chain, damage, eight_peptides, family, file, random_family, DAMAGES};
+use phf_tests::families::{
+    all_but_one_empty, chain, damage, eight_peptides, family, file, random_family, DAMAGES,
+};
 use phf_tests::random::{cases, Random};
 use phf_tests::reference::{file_of, Family};
 use std::cell::RefCell;
@@ -37,12 +39,21 @@ fn cause_2_peptides() {
 
 #[test]
 fn cause_3_leaves() {
-    assert_eq!(compare::check(&file(&[1, 1, 1], &[])), 0);
-    assert_eq!(
-        compare::check(&with_number(&file(&[1, 1, 1], &[]), 4, 2)),
-        3
-    );
-    assert_eq!(compare::check(&with_number(&file(&[1], &[]), 6, 0)), 3);
+    let leaves = |n: usize| file(&all_but_one_empty(n, 1, 1), &[]);
+    assert_eq!(compare::check(&leaves(1)), 0);
+    assert_eq!(compare::check(&leaves(2)), 0);
+    assert_eq!(compare::check(&leaves(4096)), 0);
+    assert_eq!(compare::check(&leaves(4097)), 3);
+    assert_eq!(compare::check(&leaves(65535)), 3);
+    assert_eq!(compare::check(&with_number(&leaves(1), 6, 0)), 3);
+    // before the number of regions, the layout and the lengths, after the number of peptides
+    let many = leaves(4097);
+    assert_eq!(compare::check(&with_number(&many, 8, 65535)), 3);
+    assert_eq!(compare::check(&with_number(&many, 14, 0)), 3);
+    assert_eq!(compare::check(&many[..16]), 3);
+    assert_eq!(compare::check(&with_number(&many, 16, 2)), 3);
+    assert_eq!(compare::check(&with_number(&many, 4, 0)), 2);
+    assert_eq!(compare::check(&with_number(&many, 4, 4097)), 2);
 }
 
 #[test]
@@ -50,6 +61,11 @@ fn cause_4_regions() {
     let whole = file(&[1, 1], &[(1, 2, 1), (1, 1, 1), (2, 2, 1)]);
     assert_eq!(compare::check(&whole), 0);
     let more = file(&[1, 1], &[(1, 2, 1), (1, 1, 1), (2, 2, 1), (2, 2, 0)]);
+    assert_eq!(compare::check(&more), 4);
+    // empty leaves and what is over them count like the others
+    let empty = file(&[1, 0], &[(1, 2, 1), (1, 1, 1), (2, 2, 1)]);
+    assert_eq!(compare::check(&empty), 0);
+    let more = file(&[1, 0], &[(1, 2, 1), (1, 1, 1), (2, 2, 1), (2, 2, 0)]);
     assert_eq!(compare::check(&more), 4);
     assert_eq!(compare::check(&file(&[1], &[(1, 1, 0)])), 0);
     assert_eq!(compare::check(&file(&[1], &[(1, 1, 1), (1, 1, 0)])), 4);
@@ -78,10 +94,21 @@ fn cause_6_leaf_lengths() {
         file_of(&family)
     };
     assert_eq!(compare::check(&two(2, 3)), 0);
-    assert_eq!(compare::check(&two(0, 5)), 6);
-    assert_eq!(compare::check(&two(5, 0)), 6);
     assert_eq!(compare::check(&two(2, 2)), 6);
     assert_eq!(compare::check(&two(2, 4)), 6);
+    assert_eq!(compare::check(&two(0, 5)), 0);
+    assert_eq!(compare::check(&two(5, 0)), 0);
+    assert_eq!(compare::check(&two(0, 4)), 6);
+    assert_eq!(compare::check(&two(0, 6)), 6);
+    assert_eq!(compare::check(&two(4, 0)), 6);
+    assert_eq!(compare::check(&two(6, 0)), 6);
+    assert_eq!(compare::check(&two(0, 0)), 6);
+    let all_empty = with_number(&file(&[0; 4096], &[]), 4, 1);
+    assert_eq!(compare::check(&all_empty), 6);
+    // before the regions
+    let misplaced = file(&[0, 5], &[(1, 3, 1)]);
+    assert_eq!(compare::check(&misplaced), 7);
+    assert_eq!(compare::check(&with_number(&misplaced, 4, 4)), 6);
     // a sum that is m in 16 bits only
     let mut wrapped = family(&[1; 4096], &[]);
     wrapped.lengths = vec![65535; 4096];
@@ -137,6 +164,15 @@ fn cause_10_depth() {
     assert_eq!(compare::check(&file_of(&chain(65, 64, 1))), 0);
     assert_eq!(compare::check(&file_of(&chain(65, 65, 1))), 10);
     assert_eq!(compare::check(&file_of(&chain(4096, 4096, 1))), 10);
+    // as deep over leaves of which only the last has a peptide
+    let empty = |depth: usize| {
+        let mut family = chain(65, depth, 1);
+        family.lengths = all_but_one_empty(66, 66, 1);
+        family.peptides = 1;
+        file_of(&family)
+    };
+    assert_eq!(compare::check(&empty(64)), 0);
+    assert_eq!(compare::check(&empty(65)), 10);
 }
 
 #[test]
@@ -260,8 +296,8 @@ fn damaged_files() {
         note(&seen, compare::curve(&file, &path, m + 1, m));
         note(&seen, compare::cut(&file, &path, 1, 3));
         let selection = random.selection(m, 1, 2);
-        note(&seen, compare::bound(&file, &selection, 200));
-        note(&seen, compare::reduce(&file, 1000));
+        note(&seen, compare::bound(&file, &selection, 300));
+        note(&seen, compare::reduce(&file, 2000));
         note(&seen, compare::same(&file, &whole).0);
         note(&seen, compare::same(&whole, &file).0);
         note(&seen, compare::same(&eight, &file).0);

@@ -2,7 +2,9 @@
 //! cannot be opened or read; and on output that cannot be written. What it has to print is worked out here by the plain
 //! implementation. No proof says what is read or written, so this is what holds the program to it.
 
-use phf_tests::families::{binary_tree, chain, eight_peptides, file, random_family, Bounds};
+use phf_tests::families::{
+    all_but_one_empty, binary_tree, chain, eight_peptides, file, random_family, Bounds,
+};
 use phf_tests::programs;
 use phf_tests::random::{cases, Random};
 use phf_tests::reference::{curve, file_of};
@@ -96,6 +98,26 @@ fn e1() {
     // copied from the scope document
     let e1 = "t peptide bound mark\n0 0 0 0\n1 7 0 0\n2 3 1 1\n3 1 2 1\n4 4 2 0\n5 6 3 1\n6 2 4 1\n7 5 4 0\n8 8 4 0\n";
     assert_eq!(text, e1);
+}
+
+#[test]
+fn empty_leaves() {
+    // peptides 1 and 2 in leaf 2, of which one may be false, and 3 in leaf 4
+    let text = run(
+        "empty-leaves",
+        Some(&file(&[0, 2, 0, 1], &[(1, 1, 0), (2, 3, 1)])),
+        Some(&bytes(&[2, 1, 3])),
+    );
+    assert_eq!(
+        text,
+        "t peptide bound mark\n0 0 0 0\n1 2 1 1\n2 1 1 0\n3 3 2 1\n"
+    );
+    let text = run(
+        "most-leaves",
+        Some(&file(&all_but_one_empty(4096, 4096, 1), &[])),
+        Some(&bytes(&[1])),
+    );
+    assert_eq!(text, "t peptide bound mark\n0 0 0 0\n1 1 1 1\n");
 }
 
 /// What it prints if family.phf, or path.u16 beside an accepted family, is empty or counts as empty.
@@ -251,6 +273,7 @@ fn refused_families() {
     refused("short", &eight[..15], 1);
     refused("torn", &eight[..40], 5);
     refused("peptides", &file(&[4097], &[]), 2);
+    refused("leaves", &file(&all_but_one_empty(4097, 1, 2), &[]), 3);
     refused("regions", &file(&[1], &[(1, 1, 1), (1, 1, 0)]), 4);
     refused("crossing", &file(&[1; 3], &[(1, 2, 1), (2, 3, 1)]), 9);
     refused("deep", &file_of(&chain(65, 65, 1)), 10);

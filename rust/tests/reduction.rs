@@ -58,7 +58,7 @@ fn all_up_to(m: u16, n: usize) -> impl Iterator<Item = Family> {
 
 #[test]
 fn every_family_up_to_four_peptides() {
-    told_apart((1..=4).flat_map(all_families).chain(all_up_to(3, 3)));
+    told_apart((1..=4).flat_map(all_families).chain(all_up_to(4, 3)));
 }
 
 #[test]
@@ -90,7 +90,8 @@ fn fewest_regions_and_shortest_of_every_family_up_to_four_peptides() {
     for m in 1..=4 {
         let mut sizes: HashMap<Vec<u16>, Vec<(usize, usize)>> = HashMap::new();
         let mut reduced_sizes: HashMap<Vec<u16>, Vec<(usize, usize)>> = HashMap::new();
-        for family in all_families(m) {
+        let on_three_leaves = (1..=3).flat_map(|n| all_families_of(m as u16, n));
+        for family in all_families(m).into_iter().chain(on_three_leaves) {
             let bounds = Admissible::of(&family).all_bounds(m);
             let file = file_of(&family);
             sizes.entry(bounds.clone()).or_default().push(size(&file));

@@ -2,7 +2,8 @@
 //! gets has to have the same ones.
 
 use phf_tests::families::{
-    binary_tree, chain, damage, eight_peptides, file, random_family, Bounds, DAMAGES,
+    all_but_one_empty, binary_tree, chain, damage, eight_peptides, file, random_family, Bounds,
+    DAMAGES,
 };
 use phf_tests::guarded;
 use phf_tests::phf;
@@ -72,6 +73,18 @@ fn no_region() {
         length: 0,
     };
     assert_eq!(guarded::regions(&file(&[1, 2], &[])), place);
+}
+
+#[test]
+fn empty_leaves() {
+    // (1,1,0) and (2,3,4)
+    let bytes = [1, 0, 1, 0, 0, 0, 2, 0, 3, 0, 4, 0];
+    let family = file(&[0, 1, 0], &[(1, 1, 0), (2, 3, 4)]);
+    assert_eq!(part("empty-leaves", &family), bytes);
+    let family = file(&all_but_one_empty(4096, 4096, 1), &[(1, 4096, 7)]);
+    assert_eq!(part("most-leaves", &family), [1, 0, 0, 16, 7, 0]);
+    let family = file(&all_but_one_empty(4097, 4097, 1), &[(1, 4097, 7)]);
+    assert!(part("too-many-leaves", &family).is_empty());
 }
 
 #[test]

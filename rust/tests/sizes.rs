@@ -1,7 +1,10 @@
 //! The library against the plain implementation, at all sizes up to 4,096 peptides and 8,191 regions.
 
 use phf_tests::compare;
-use phf_tests::families::{binary_tree, chain, deepest_tree, random_family, towers, Bounds};
+use phf_tests::families::{
+    all_but_one_empty, binary_tree, binary_tree_on, chain, deepest_tree, random_family, towers,
+    Bounds,
+};
 use phf_tests::guarded;
 use phf_tests::random::{cases, Random};
 use phf_tests::reference::{file_of, Family, Region};
@@ -70,6 +73,19 @@ fn the_largest_tree() {
         assert_eq!(family.regions.len(), 8191);
         all_calls(random, &family);
     });
+}
+
+#[test]
+fn the_largest_tree_over_empty_leaves() {
+    for (seed, peptides) in [(11, 1), (12, 4096)] {
+        cases(seed, 1, |random| {
+            let leaf = random.between(1, 4096);
+            let lengths = all_but_one_empty(4096, leaf, peptides);
+            let family = binary_tree_on(random, lengths, Bounds::Mixed);
+            assert_eq!(family.regions.len(), 8191);
+            all_calls(random, &family);
+        });
+    }
 }
 
 #[test]

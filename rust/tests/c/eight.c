@@ -151,7 +151,7 @@ static void numbers_of_files(void)
     HOLDS(number_with(4, 8) == PHF_DONE);
     HOLDS(number_with(0, 0) == PHF_NOT_A_FAMILY_FILE);
     HOLDS(number_with(4, 4097) == PHF_BAD_PEPTIDE_COUNT);
-    HOLDS(number_with(6, 9) == PHF_BAD_LEAF_COUNT);
+    HOLDS(number_with(6, 4097) == PHF_BAD_LEAF_COUNT);
     HOLDS(number_with(8, 8) == PHF_TOO_MANY_REGIONS);
     HOLDS(number_with(14, 55) == PHF_BAD_LAYOUT);
     HOLDS(number_with(16, 1) == PHF_BAD_LEAF_LENGTHS);
