@@ -1,5 +1,6 @@
 //! Each call of the library held to the reference: the answer, and every lent byte afterwards.
 
+use crate::families::has_empty_leaf;
 use crate::guarded;
 use crate::phf;
 use crate::reference;
@@ -150,7 +151,7 @@ pub fn reduce(file: &[u8], room: usize) -> u16 {
             };
             assert_eq!(answer, expected);
             assert_eq!(out, with_front(&reduced, &before));
-            guarded::has_no_empty_leaf(&out);
+            assert!(!has_empty_leaf(&out));
         }
         Err(number) => {
             let expected = phf::Reduced {

@@ -351,6 +351,11 @@ pub fn file(lengths: &[u16], regions: &[(u16, u16, u16)]) -> Vec<u8> {
     file_of(&family(lengths, regions))
 }
 
+/// Whether an accepted file has a leaf without a peptide.
+pub fn has_empty_leaf(file: &[u8]) -> bool {
+    (0..get(file, 6)).any(|j| get(file, 16 + 2 * j) == 0)
+}
+
 // Every family with m peptides.
 
 /// The ways to cut m peptides into leaves that have some.

@@ -2,6 +2,7 @@
 //! input is compared with what was given.
 
 use crate::buffers::{reading, writing};
+use crate::families::has_empty_leaf;
 use crate::phf::{self, Bounded, Checked, Compared, Curved, Cutting, Part, Reduced};
 
 pub fn check(file: &[u8]) -> Checked {
@@ -48,15 +49,8 @@ pub fn reduced(file: &[u8]) -> Vec<u8> {
     out.truncate(answer.length as usize);
     assert_eq!(out[14..16], answer.length.to_le_bytes());
     assert_eq!(out[8..10], answer.regions.to_le_bytes());
-    has_no_empty_leaf(&out);
+    assert!(!has_empty_leaf(&out));
     out
-}
-
-/// Of a reduced file.
-pub fn has_no_empty_leaf(reduced: &[u8]) {
-    let leaves = u16::from_le_bytes([reduced[6], reduced[7]]) as usize;
-    let mut lengths = reduced[16..16 + 2 * leaves].chunks_exact(2);
-    assert!(lengths.all(|two| two != [0, 0]), "an empty leaf");
 }
 
 pub fn same(first: &[u8], second: &[u8]) -> Compared {

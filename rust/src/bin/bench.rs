@@ -1,7 +1,10 @@
 //! The library and the same algorithms in Rust, measured side by side: one after the other on the same input, in turns, in
 //! one run. Prints the tables of docs/PERFORMANCE.md. Before anything is measured the two must answer the same.
 
-use phf_tests::families::{binary_tree, chain, eight_peptides, family, towers, Bounds};
+use phf_tests::families::{
+    all_but_one_empty, binary_tree, binary_tree_on, chain, eight_peptides, family, has_empty_leaf,
+    towers, Bounds,
+};
 use phf_tests::random::Random;
 use phf_tests::reference::{check, file_of, Family, Region};
 use phf_tests::{fast, phf};
@@ -218,6 +221,9 @@ fn inputs() -> Vec<Input> {
     for region in &mut loose.regions {
         region.z = 65535;
     }
+    // the way to the last leaf is the longest for every peptide
+    let lengths = all_but_one_empty(4096, 4096, 4096);
+    let empty = binary_tree_on(&mut Random::new(8), lengths, Bounds::Mixed);
     vec![
         Input::new(
             "course, m = 8",
@@ -234,7 +240,12 @@ fn inputs() -> Vec<Input> {
             &chain(4096, 64, 65535),
             down.clone(),
         ),
-        Input::new("4,096 leaves, no region", &family(&[1; 4096], &[]), down),
+        Input::new(
+            "4,096 leaves, no region",
+            &family(&[1; 4096], &[]),
+            down.clone(),
+        ),
+        Input::new("4,095 of 4,096 leaves empty", &empty, down),
     ]
 }
 
@@ -280,7 +291,9 @@ fn reduced(family: &Family) -> Family {
     let mut out = vec![0; file.len()];
     let answer = phf::reduce(&file, &mut out);
     assert_eq!(answer.number, 0);
-    check(&out[..answer.length as usize]).unwrap()
+    out.truncate(answer.length as usize);
+    assert!(!has_empty_leaf(&out));
+    check(&out).unwrap()
 }
 
 /// The curve of the source's experiment, for each step of the path.
@@ -356,12 +369,14 @@ fn hostile_files() -> Vec<(&'static str, Vec<u8>)> {
         last: 4033,
         z: 1,
     }));
+    let empty = binary_tree_on(random, all_but_one_empty(4096, 4096, 1), Bounds::Mixed);
     vec![
         ("largest, accepted", file_of(&largest)),
         ("largest, the last regions cross", file_of(&crossing)),
         ("towers of 64", file_of(&steps)),
         ("towers, the last too deep", file_of(&too_deep)),
         ("4,096 nested", file_of(&chain(4096, 4096, 1))),
+        ("4,095 of 4,096 leaves empty", file_of(&empty)),
         ("57,355 zeros behind a header", {
             let mut file = file_of(&largest);
             file[16..].fill(0);
