@@ -194,7 +194,7 @@ pub fn pieces(family: &Family) -> Vec<Piece> {
 }
 
 /// The leaves of each region, in file order: nesting is judged on leaf numbers.
-pub fn leaf_pieces(family: &Family) -> Vec<Piece> {
+fn leaf_pieces(family: &Family) -> Vec<Piece> {
     family
         .regions
         .iter()

@@ -84,7 +84,8 @@ fn size(file: &[u8]) -> (usize, usize) {
 }
 
 /// Of all families with the same bounds none has fewer regions than the reduced file, and none a shorter file. A z over its
-/// region's size says no more than the size does, so `all_families` has what can be said with so many regions.
+/// region's size says no more than the size does, so `all_families` has what can be said with so many regions. Those on up
+/// to three leaves, empty ones among them, say it in more ways, and none is shorter.
 #[test]
 fn fewest_regions_and_shortest_of_every_family_up_to_four_peptides() {
     for m in 1..=4 {
