@@ -6,7 +6,8 @@
 
 A list has one entry on each line; what follows a # is a note:
 
-    leaves 2 3 1 2          the number of peptides in each leaf, from leaf 1 on (the line may be repeated for more leaves)
+    leaves 2 3 0 1 2        the number of peptides in each leaf, from leaf 1 on: 0 for a protein with nothing measured (the
+                            line may be repeated for more leaves)
     region 1 2 3            first leaf, last leaf, z: at most 3 peptides of leaves 1 to 2 are false
     path 7 3 1              the ranked peptides, best first (may be repeated too; without it the path is empty)
 

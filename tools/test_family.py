@@ -33,13 +33,34 @@ class Lists(unittest.TestCase):
         )
         self.assertEqual(family.path_bytes(path).hex(" "), "07 00 03 00 01 00 04 00 06 00 02 00 05 00 08 00")
 
+    def test_proteins_with_nothing_measured(self):
+        text = "leaves 0 1 0 0 1\nregion 1 3 1\nregion 3 3 0\npath 2 1\n"
+        lengths, regions, path = family.read_list(text)
+        # m = 2, N = 5, K = 2, offsets 16 and 26, total 38
+        data = bytes.fromhex(
+            "50 48 46 42 02 00 05 00 02 00 10 00 1a 00 26 00 "
+            "00 00 01 00 00 00 00 00 01 00 "
+            "01 00 03 00 01 00 03 00 03 00 00 00"
+        )
+        self.assertEqual(family.family_bytes(lengths, regions), data)
+        self.assertEqual(family.split_family(data), ([0, 1, 0, 0, 1], [(1, 3, 1), (3, 3, 0)]))
+        self.assertEqual(family.write_list(lengths, regions, path), text)
+
+    def test_the_longest_family(self):
+        lengths, regions = [0] * 4095 + [1], [(4096, 4096, 0)] * 8191
+        data = family.family_bytes(lengths, regions)
+        # N = 0x1000, K = 0x1fff, offset 16 + 2 * 4096 = 0x2010, total 0x2010 + 6 * 8191 = 0xe00a
+        self.assertEqual(data[:16].hex(" "), "50 48 46 42 01 00 00 10 ff 1f 10 00 10 20 0a e0")
+        self.assertEqual(len(data), 57354)
+        self.assertEqual(family.split_family(data), (lengths, regions))
+
     def test_low_byte_first(self):
         self.assertEqual(family.path_bytes([258, 65535]).hex(" "), "02 01 ff ff")
 
     def test_there_and_back(self):
-        lengths = [1 + i % 7 for i in range(60)]
+        lengths = [i % 7 for i in range(60)]
         regions = [(i, 60, i * 1000) for i in range(1, 60)]
-        path = list(range(200, 0, -1))
+        path = list(range(174, 0, -1))
         text = family.write_list(lengths, regions, path)
         self.assertEqual(family.read_list(text), (lengths, regions, path))
         data = family.family_bytes(lengths, regions)
@@ -61,7 +82,8 @@ class Lists(unittest.TestCase):
 
     def test_bad_files(self):
         good = family.family_bytes([2, 3], [(1, 1, 1)])
-        for data in [b"", good[:-1], good + b"\0", b"PHFC" + good[4:], good[:4] + b"\6" + good[5:]]:
+        emptied = good[:16] + b"\0" + good[17:]
+        for data in [b"", good[:-1], good + b"\0", b"PHFC" + good[4:], good[:4] + b"\6" + good[5:], emptied]:
             with self.assertRaises(family.BadList):
                 family.split_family(data)
         with self.assertRaises(family.BadList):
@@ -93,7 +115,7 @@ class Commands(unittest.TestCase):
 class Examples(unittest.TestCase):
     def test_files_are_made_of_the_lists(self):
         folders = [folder for folder in sorted((ROOT / "examples").iterdir()) if folder.is_dir()]
-        self.assertGreaterEqual(len(folders), 5)
+        self.assertGreaterEqual(len(folders), 6)
         for folder in folders:
             with self.subTest(folder=folder.name):
                 lengths, regions, path = family.read_list((folder / "family.txt").read_text(encoding="utf-8"))

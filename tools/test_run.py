@@ -4,6 +4,7 @@ Run: python3 tools/test_run.py, once `rt check curve` has built the program."""
 import os
 import pathlib
 import shutil
+import struct
 import subprocess
 import tempfile
 import time
@@ -18,6 +19,11 @@ GOOD = family.family_bytes([2, 3, 1, 2], [(1, 2, 3), (1, 1, 2), (2, 2, 1), (3, 4
 def run(root, *words, **more):
     """What ./run of a repository writes, as bytes, and its status."""
     return subprocess.run([root / "run", *words], capture_output=True, check=False, **more)
+
+
+def with_number(data, at, number):
+    """A file with another number at an offset."""
+    return data[:at] + struct.pack("<H", number) + data[at + 2 :]
 
 
 def causes():
@@ -98,17 +104,21 @@ class Shown(unittest.TestCase):
             (1, b"PHFC" + GOOD[4:]),
             (2, family.family_bytes([], [])),
             (2, family.family_bytes([4097], [])),
-            (3, family.family_bytes([1, 0], [])),
+            (3, with_number(GOOD, 6, 0)),
+            (3, family.family_bytes([1] + [0] * 4096, [])),
             (4, family.family_bytes([1], [(1, 1, 1), (1, 1, 0)])),
             (5, GOOD[:-1]),
             (5, GOOD + b"\0"),
-            (6, family.family_bytes([2, 0, 1], [])),
+            (6, with_number(family.family_bytes([2, 0, 1], []), 4, 2)),
+            (6, with_number(family.family_bytes([2, 0, 1], []), 4, 4)),
             (7, family.family_bytes([1, 1], [(2, 1, 0)])),
             (7, family.family_bytes([1, 1], [(1, 3, 0)])),
             (8, family.family_bytes([1, 1], [(2, 2, 0), (1, 1, 0)])),
             (8, family.family_bytes([1, 1], [(1, 2, 0), (1, 2, 1)])),
             (9, family.family_bytes([2, 2, 2], [(1, 2, 1), (2, 3, 1)])),
+            (9, family.family_bytes([2, 0, 2], [(1, 2, 1), (2, 3, 1)])),
             (10, family.family_bytes([1] * 65, nested)),
+            (10, family.family_bytes([1] + [0] * 64, nested)),
         ]
         for number, data in files:
             with self.subTest(number=number):
@@ -125,6 +135,17 @@ class Shown(unittest.TestCase):
         for number, data in files:
             with self.subTest(number=number):
                 self.refuses(self.in_folder("refused", GOOD, data), number)
+
+    def test_the_example_with_nothing_measured(self):
+        # its family.txt derives the bounds
+        lines = ["t peptide bound mark", "0 0 0 0"]
+        lines += ["1 3 1 1", "2 4 2 1", "3 1 2 0", "4 9 3 1", "5 8 3 0", "6 5 4 1", "7 6 4 0", "8 2 4 0", "9 7 4 0"]
+        self.shows(run(ROOT, ROOT / "examples/unmeasured-protein"), "".join(line + "\n" for line in lines).encode())
+
+    def test_more_leaves_than_peptides(self):
+        # the one peptide is in leaf 2, whose region allows it; regions without a peptide forbid nothing
+        most = family.family_bytes([0, 1] + [0] * 4094, [(1, 1, 0), (2, 2, 1), (3, 4096, 0)])
+        self.shows(self.in_folder("leaves", most, family.path_bytes([1])), b"t peptide bound mark\n0 0 0 0\n1 1 1 1\n")
 
     def test_the_refused_example(self):
         self.refuses(run(ROOT, ROOT / "examples/refused"), 9)
