@@ -27,7 +27,8 @@
  * THE FILE. All numbers have 2 bytes, low byte first. From offset 0: the mark "PHFB", m, N, K, the offset of the leaf
  * lengths (16), the offset of the regions (16 + 2N), the total length (16 + 2N + 6K); then N leaf lengths; then K
  * regions, each first leaf, last leaf, z. Peptides are numbered from 1 to m, leaves from 1 to N; they are different
- * things. A region has all peptides of its leaves.
+ * things. A leaf may have no peptide (a protein with nothing measured), so N may be larger than m. A region has all
+ * peptides of its leaves: it may have none, and two regions may have the same ones. Nesting goes by leaf numbers.
  *
  * EXAMPLE, for a main with <stdio.h>: the curve of a family with 8 peptides, 4 leaves and 5 regions.
  *
@@ -59,11 +60,12 @@ extern "C" {
  * MINOR rises then. PATCH rises when all of these stay as they are.
  */
 #define PHF_VERSION_MAJOR 0
-#define PHF_VERSION_MINOR 9
+#define PHF_VERSION_MINOR 10
 #define PHF_VERSION_PATCH 0
 
-/* The largest sizes: peptides, regions, and bytes of a family file. */
+/* The largest sizes: peptides, leaves, regions, and bytes of a family file. */
 #define PHF_MOST_PEPTIDES 4096
+#define PHF_MOST_LEAVES 4096
 #define PHF_MOST_REGIONS 8191
 #define PHF_MOST_BYTES 57354
 
@@ -78,13 +80,13 @@ enum phf_number {
     PHF_NOT_A_FAMILY_FILE = 1,
     /* m, the number of peptides, is 0 or over 4096 */
     PHF_BAD_PEPTIDE_COUNT = 2,
-    /* N, the number of leaves, is 0 or over m */
+    /* N, the number of leaves, is 0 or over 4096 */
     PHF_BAD_LEAF_COUNT = 3,
     /* K, the number of regions, is over 2N - 1 */
     PHF_TOO_MANY_REGIONS = 4,
     /* an offset or the total in the file is not as laid down, or the file's length is not the total */
     PHF_BAD_LAYOUT = 5,
-    /* a leaf length is 0, or the lengths do not add to m */
+    /* the leaf lengths do not add to m */
     PHF_BAD_LEAF_LENGTHS = 6,
     /* a region's first leaf is 0, or its last below its first, or over N */
     PHF_BAD_REGION_LEAVES = 7,
@@ -185,7 +187,7 @@ phf_cutting phf_cut(const uint8_t *file, size_t file_len,
 
 /*
  * The reduced file of a family: the one file that all families reduce to which have the same m and, for every selection,
- * the same bound (equivalently, for every path, the same curve). Causes 1 to 10, 16.
+ * the same bound (equivalently, for every path, the same curve). Each of its leaves has a peptide. Causes 1 to 10, 16.
  *
  * out: at least as long as the family file. Its first `length` bytes become the reduced file, which has `regions` regions,
  *      and the rest is unchanged.

@@ -138,12 +138,13 @@ fn from_python() {
     let torn = made("torn.phf");
     std::fs::write(&whole, &eight).unwrap();
     std::fs::write(&torn, &eight[1..]).unwrap();
+    let unmeasured = root().join("examples/unmeasured-protein/family.phf");
     let said = succeeds(
         Command::new("python3")
             .arg(tests().join("python/check.py"))
             .arg(shared_library())
-            .args([whole, torn]),
+            .args([whole, torn, unmeasured]),
     );
-    // 8 peptides in 4 leaves, with 5 regions; without its first byte a file lacks the mark
-    assert_eq!(said, "0 8 4 5\n1 0 0 0\n");
+    // 8 peptides in 4 leaves, with 5 regions; without its first byte a file lacks the mark; the lines of family.txt, counted
+    assert_eq!(said, "0 8 4 5\n1 0 0 0\n0 9 6 7\n");
 }

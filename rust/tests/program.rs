@@ -3,7 +3,7 @@
 //! implementation. No proof says what is read or written, so this is what holds the program to it.
 
 use phf_tests::families::{
-    all_but_one_empty, binary_tree, chain, eight_peptides, file, random_family, Bounds,
+    all_but_one_empty, binary_tree, chain, eight_peptides, family, file, random_family, Bounds,
 };
 use phf_tests::programs;
 use phf_tests::random::{cases, Random};
@@ -258,6 +258,39 @@ fn reads_and_writes_in_steps() {
 }
 
 #[test]
+fn leaves_without_a_peptide() {
+    let lengths = [0, 1, 0, 0, 1, 0, 0];
+    let path = bytes(&[2, 1]);
+    let table = |name: &str, regions: &[(u16, u16, u16)]| {
+        run(name, Some(&file(&lengths, regions)), Some(&path))
+    };
+    let both = "t peptide bound mark\n0 0 0 0\n1 2 1 1\n2 1 2 1\n";
+    let one = "t peptide bound mark\n0 0 0 0\n1 2 1 1\n2 1 1 0\n";
+    // peptide 1 is in leaf 2 and peptide 2 in leaf 5; no other region has a peptide
+    assert_eq!(table("none", &[]), both);
+    let beside = [(1, 1, 0), (3, 4, 0), (3, 3, 0), (6, 7, 0)];
+    assert_eq!(table("beside", &beside), both);
+    // both regions have both peptides, and the smaller z is once outside and once inside
+    assert_eq!(table("outside", &[(1, 7, 1), (2, 5, 2)]), one);
+    assert_eq!(table("inside", &[(1, 7, 2), (2, 5, 1)]), one);
+}
+
+/// The longest file that one peptide can have. It is in the middle; its own 13 regions allow it, all others forbid theirs.
+#[test]
+fn one_peptide_in_the_longest_family() {
+    let mut family = binary_tree(&mut Random::new(52), 4096, 1, Bounds::Small);
+    family.peptides = 1;
+    family.lengths = all_but_one_empty(4096, 2049, 1);
+    for region in &mut family.regions {
+        region.z = u16::from(region.first <= 2049 && 2049 <= region.last);
+    }
+    let file = file_of(&family);
+    assert_eq!(file.len(), 57_354);
+    let text = run("one-peptide", Some(&file), Some(&bytes(&[1])));
+    assert_eq!(text, "t peptide bound mark\n0 0 0 0\n1 1 1 1\n");
+}
+
+#[test]
 fn refused_families() {
     let eight = file_of(&eight_peptides());
     let path = bytes(&[1, 2]);
@@ -273,9 +306,15 @@ fn refused_families() {
     refused("short", &eight[..15], 1);
     refused("torn", &eight[..40], 5);
     refused("peptides", &file(&[4097], &[]), 2);
-    refused("leaves", &file(&all_but_one_empty(4097, 1, 2), &[]), 3);
+    refused("leaves", &file(&all_but_one_empty(4097, 1, 1), &[]), 3);
     refused("regions", &file(&[1], &[(1, 1, 1), (1, 1, 0)]), 4);
+    let mut lengths = family(&[2, 0, 1], &[]);
+    lengths.peptides = 2;
+    refused("lengths", &file_of(&lengths), 6);
     refused("crossing", &file(&[1; 3], &[(1, 2, 1), (2, 3, 1)]), 9);
+    // they share a leaf and no peptide
+    let empty = file(&[1, 0, 1], &[(1, 2, 1), (2, 3, 1)]);
+    refused("crossing-empty", &empty, 9);
     refused("deep", &file_of(&chain(65, 65, 1)), 10);
     let mut long = eight.clone();
     long.extend([0; 70_000]);
@@ -439,6 +478,16 @@ fn example(name: &str) -> String {
     run(&format!("example-{name}"), Some(&family), Some(&path))
 }
 
+/// The third column of a table, without its heading.
+fn bounds(table: &str) -> String {
+    let bounds: Vec<&str> = table
+        .lines()
+        .skip(1)
+        .map(|line| line.split(' ').nth(2).unwrap())
+        .collect();
+    bounds.join(" ")
+}
+
 #[test]
 fn the_examples() {
     assert_eq!(example("refused"), "refused 9\n");
@@ -446,11 +495,8 @@ fn the_examples() {
     assert_eq!(example("nested").lines().count(), 98);
     assert_eq!(example("eight-peptides").lines().count(), 10);
     // the published curve: 1 2 3 3 4 5 5 5 5
-    let published = example("published");
-    let bounds: Vec<&str> = published
-        .lines()
-        .skip(1)
-        .map(|line| line.split(' ').nth(2).unwrap())
-        .collect();
-    assert_eq!(bounds.join(" "), "0 1 2 3 3 4 5 5 5 5");
+    assert_eq!(bounds(&example("published")), "0 1 2 3 3 4 5 5 5 5");
+    // derived in its family.txt
+    let unmeasured = example("unmeasured-protein");
+    assert_eq!(bounds(&unmeasured), "0 1 2 2 3 3 4 4 4 4");
 }

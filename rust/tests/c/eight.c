@@ -1,6 +1,6 @@
 /*
  * The eight-peptide family from C: every call, what it writes, and every number by its name. The expected values are those
- * of the scope document.
+ * of the scope document. Then a family with leaves without a peptide, whose values are derived beside it.
  * Compiled as C99 and as C++11. Prints `ok`, or the first line that does not hold.
  */
 #include <stdio.h>
@@ -113,6 +113,87 @@ static void reduce_and_same(void)
     HOLDS(compared.number == 105 && compared.same == 0);
 }
 
+/*
+ * 4 peptides in 7 leaves: 1 and 2 in leaf 2, 3 in leaf 4, 4 in leaf 5. The first two regions both have peptides 1 and 2, the
+ * third has none, the fourth has 3 and 4, the last has 4. So a set respects every bound exactly if it has at most one of 1
+ * and 2, and not 4.
+ */
+static const uint8_t unmeasured[60] = {
+    0x50, 0x48, 0x46, 0x42, 4, 0, 7, 0, 5, 0, 16, 0, 30, 0, 60, 0,
+    0, 0, 2, 0, 0, 0, 1, 0, 1, 0, 0, 0, 0, 0,
+    1, 0, 3, 0, 1, 0,
+    2, 0, 2, 0, 2, 0,
+    3, 0, 3, 0, 0, 0,
+    4, 0, 6, 0, 1, 0,
+    5, 0, 6, 0, 0, 0};
+
+static void check_and_bound_unmeasured(void)
+{
+    const uint8_t all[4] = {1, 1, 1, 1};
+    /* the inside totals are 2, 2, 0, 1, 1: only the first and the last region have a z below theirs */
+    const uint8_t expected[6] = {1, 0, 0, 0, 1, 77};
+    uint8_t taken[6];
+    phf_checked checked = phf_check(unmeasured, sizeof unmeasured);
+    phf_part part = phf_regions(unmeasured, sizeof unmeasured);
+    phf_bounded answer;
+    HOLDS(checked.number == 0 && checked.peptides == 4 && checked.leaves == 7 && checked.regions == 5);
+    HOLDS(part.offset == 30 && part.length == 30);
+    memset(taken, 77, sizeof taken);
+    answer = phf_bound(unmeasured, sizeof unmeasured, all, 4, taken, 6);
+    HOLDS(answer.number == 0 && answer.bound == 2);
+    HOLDS(memcmp(taken, expected, 6) == 0);
+}
+
+static void curve_and_cut_unmeasured(void)
+{
+    const uint16_t path[4] = {2, 3, 1, 4};
+    /* 2; 2 and 3; then 1 is one too many beside 2, and 4 is never in such a set */
+    const uint16_t expected[5] = {0, 1, 2, 2, 2};
+    const uint8_t expected_marks[4] = {1, 1, 0, 0};
+    uint16_t values[5];
+    uint8_t marks[4];
+    phf_curved answer = phf_curve(unmeasured, sizeof unmeasured, path, 4, values, 5, marks, 4);
+    phf_cutting cut = phf_cut(unmeasured, sizeof unmeasured, path, 4, 2, 3);
+    HOLDS(answer.number == 0 && answer.place == 0);
+    HOLDS(memcmp(values, expected, sizeof values) == 0);
+    HOLDS(memcmp(marks, expected_marks, sizeof marks) == 0);
+    /* 2 of 4 is at most 2/3; 1 of 1, 2 of 2, 2 of 3 and 2 of 4 are all more than 1/3 */
+    HOLDS(cut.number == 0 && cut.place == 0 && cut.cut == 4);
+    cut = phf_cut(unmeasured, sizeof unmeasured, path, 4, 1, 3);
+    HOLDS(cut.number == 0 && cut.place == 0 && cut.cut == 0);
+}
+
+static void reduce_and_same_unmeasured(void)
+{
+    /*
+     * Dead is 4 alone. The stretches are 1 to 2, with the smaller z of its two regions, 1, and room 2; and 3 to 3, with z 1
+     * and room 1. The first is kept, and with the dead run 4 to 4 the leaves end at 2, 3 and 4.
+     */
+    const uint8_t expected[34] = {
+        0x50, 0x48, 0x46, 0x42, 4, 0, 3, 0, 2, 0, 16, 0, 22, 0, 34, 0,
+        2, 0, 1, 0, 1, 0,
+        1, 0, 1, 0, 1, 0,
+        3, 0, 3, 0, 0, 0};
+    uint8_t other[sizeof unmeasured];
+    uint8_t out[sizeof unmeasured];
+    phf_reduced answer;
+    phf_compared compared;
+    memset(out, 77, sizeof out);
+    answer = phf_reduce(unmeasured, sizeof unmeasured, out, sizeof out);
+    HOLDS(answer.number == 0 && answer.length == 34 && answer.regions == 2);
+    HOLDS(memcmp(out, expected, 34) == 0 && out[34] == 77 && out[59] == 77);
+    compared = phf_same(unmeasured, sizeof unmeasured, expected, sizeof expected);
+    HOLDS(compared.number == 0 && compared.same == 1);
+    /* z of the region without a peptide says nothing; with 2 for the z of the first region, 1 and 2 may both be false */
+    memcpy(other, unmeasured, sizeof other);
+    other[46] = 9;
+    compared = phf_same(unmeasured, sizeof unmeasured, other, sizeof other);
+    HOLDS(compared.number == 0 && compared.same == 1);
+    other[34] = 2;
+    compared = phf_same(unmeasured, sizeof unmeasured, other, sizeof other);
+    HOLDS(compared.number == 0 && compared.same == 0);
+}
+
 static void put(uint8_t *file, size_t at, size_t number)
 {
     file[at] = (uint8_t)(number & 255);
@@ -146,12 +227,27 @@ static uint16_t number_of_nested(size_t regions)
     return phf_check(file, total).number;
 }
 
+/* What the check says of so many leaves, of which the first has the one peptide and the others none. */
+static uint16_t number_of_leaves(size_t leaves)
+{
+    uint8_t file[16 + 2 * (PHF_MOST_LEAVES + 1)] = {0x50, 0x48, 0x46, 0x42};
+    const size_t total = 16 + 2 * leaves;
+    const size_t header[6] = {1, leaves, 0, 16, total, total};
+    size_t i;
+    for (i = 0; i < 6; i++)
+        put(file, 4 + 2 * i, header[i]);
+    put(file, 16, 1);
+    return phf_check(file, total).number;
+}
+
 static void numbers_of_files(void)
 {
     HOLDS(number_with(4, 8) == PHF_DONE);
     HOLDS(number_with(0, 0) == PHF_NOT_A_FAMILY_FILE);
     HOLDS(number_with(4, 4097) == PHF_BAD_PEPTIDE_COUNT);
-    HOLDS(number_with(6, 4097) == PHF_BAD_LEAF_COUNT);
+    HOLDS(number_with(6, 0) == PHF_BAD_LEAF_COUNT);
+    HOLDS(number_of_leaves(PHF_MOST_LEAVES) == PHF_DONE);
+    HOLDS(number_of_leaves(PHF_MOST_LEAVES + 1) == PHF_BAD_LEAF_COUNT);
     HOLDS(number_with(8, 8) == PHF_TOO_MANY_REGIONS);
     HOLDS(number_with(14, 55) == PHF_BAD_LAYOUT);
     HOLDS(number_with(16, 1) == PHF_BAD_LEAF_LENGTHS);
@@ -185,6 +281,9 @@ int main(void)
     bound();
     curve_and_cut();
     reduce_and_same();
+    check_and_bound_unmeasured();
+    curve_and_cut_unmeasured();
+    reduce_and_same_unmeasured();
     numbers_of_files();
     numbers_of_other_inputs();
     if (failures == 0)
