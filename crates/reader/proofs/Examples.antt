@@ -1,14 +1,20 @@
 -- Worked examples of the check: the eight-peptide family, and the edges of causes 2, 3, 4, 6 and 10.
-use Prim.Native.Nat.{ℕ, _-_}
-use mathlib.Core.Bool.{true, false}
+use Prim.Native.Nat.{ℕ, zero, suc, _+_, _-_, _<_, _≤_}
+use mathlib.Core.Bool.{Bool, true, false, cond}
 use mathlib.Core.List.{List, [], _∷_, _++_}
-use mathlib.Core.Path.{_≡_, refl}
-use lib.ListN.{replicate, take, drop}
+use mathlib.Core.Path.{_≡_, refl, ap, _∙_}
+use native.Mathlib.Omega.{arith}
+use lib.ListN.{length, replicate, take, drop}
 use Rattle.reader.specs.Lists.{tabulate, sum, sameList, someBelow, countBelow, firstBelow}
 use Rattle.reader.specs.Bytes.{numberAt, bytesOf}
 use Rattle.reader.specs.Family.{Region, Family, region, mark, lengthAt, regionAt, familyOf, regionFields, fields, fileOf}
-use Rattle.reader.specs.Nesting.{before, shareLeaf, regionWithin, crossing, regionInside, regionJustInside, parent, parents}
+use Rattle.reader.specs.Nesting.{before, shareLeaf, regionWithin, crossing, regionInside, regionsAround, regionJustInside, parent, parents}
 use Rattle.reader.specs.Causes.{cause1, cause2, cause3, cause4, cause5, cause6, cause7, cause8, cause9, cause10, misplaced, firstCause, headerCauses, familyCauses, fileCauses}
+use Rattle.reader.specs.WellFormed.{WellFormed}
+use Rattle.reader.proofs.Bools.{passes}
+use Rattle.reader.proofs.Parsed.{peptides-read, leaves-read}
+use Rattle.reader.proofs.Judged.{from-marked, from-peptides-counted, leaves-counted}
+use Rattle.reader.proofs.Files.{field-read, file-length, file-accepted}
 use Rattle.reader.specs.Calls.{answer, checked, regionPart, partStart}
 
 abbrev range : ℕ → ℕ → ℕ → Region
@@ -93,12 +99,70 @@ pub eight-parents : parents eight ≡ 0 ∷ 1 ∷ 1 ∷ 0 ∷ 4 ∷ []
 unfolding number firstBelow regionJustInside parent parents
 eight-parents = refl
 
+only-length : (k : ℕ) → length {A = ℕ} (replicate k 0 ++ (1 ∷ [])) ≡ suc k
+only-length zero = refl
+only-length (suc k) = ap suc (only-length k)
+
+only-sum : (k : ℕ) → sum (replicate k 0 ++ (1 ∷ [])) ≡ 1
+unfolding sum
+only-sum zero = refl
+only-sum (suc k) = omega (arith, only-sum k)
+
+last-leaf-only : (n : ℕ) → 1 ≤ n → n ≤ 4096 → WellFormed (lastLeafOnly n)
+unfolding lastLeafOnly region countBelow
+last-leaf-only n some most =
+    let many : length {A = ℕ} (replicate (n - 1) 0 ++ (1 ∷ [])) ≡ n = only-length (n - 1) ∙ omega arith in
+    record {
+      peptides-some = omega arith;
+      peptides-most = omega arith;
+      leaves-some = omega (arith, many);
+      leaves-most = omega (arith, many);
+      regions-most = omega (arith, many);
+      lengths-sum = only-sum (n - 1);
+      ordered =
+          record {
+            first-some = λ k h. one k h (λ k. 1 ≤ region (lastLeafOnly n) k .first) (omega arith);
+            first-last = λ k h. one k h (λ k. region (lastLeafOnly n) k .first ≤ region (lastLeafOnly n) k .last) some;
+            last-leaf = λ k h. one k h (λ k. region (lastLeafOnly n) k .last ≤ length {A = ℕ} (replicate (n - 1) 0 ++ (1 ∷ []))) (omega (arith, many));
+            rising = λ i j l h. absurd (omega arith);
+            falling = λ i j l h. absurd (omega arith);
+          };
+      nested = λ i j l h. absurd (omega arith);
+      shallow = λ k h. one k h (λ k. regionsAround (lastLeafOnly n) k ≤ 63) (few (regionInside (region (lastLeafOnly n) 0) (region (lastLeafOnly n) 0)));
+      z-fits = λ k h. one k h (λ k. region (lastLeafOnly n) k .z < 65536) (omega arith);
+    }
+  where
+    few : (b : Bool) → 0 + cond b 1 0 ≤ 63
+    few true = omega arith
+    few false = omega arith
+
+    one : (k : ℕ) → k < 1 → (P : ℕ → Type 0) → P 0 → P k
+    one zero h P p = p
+    one (suc k) h P p = absurd (omega arith)
+
+third : (s : List ℕ) → cause1 s ≡ false → cause2 (familyOf s) ≡ false → cause3 (familyOf s) ≡ true → firstCause (fileCauses s) ≡ 3
+unfolding fileCauses firstCause headerCauses
+third s h1 h2 h = rw (h1, h2, h)
+
+too-many : (n : ℕ) → 4096 < n → n < 65536 → firstCause (fileCauses (fileOf (lastLeafOnly n))) ≡ 3
+unfolding lastLeafOnly fields
+too-many n over fits =
+    let F = lastLeafOnly n in
+    let s = fileOf F in
+    let many : length (F .lengths) ≡ n = only-length (n - 1) ∙ omega arith in
+    let m : numberAt s 4 ≡ 1 = field-read F 0 4 refl (omega arith) in
+    let read : numberAt s 6 ≡ length (F .lengths) = field-read F 1 6 refl (omega (arith, many)) in
+    third s
+    (from-marked s (omega (arith, file-length F)) (unfold fileOf mark in refl))
+    (from-peptides-counted (familyOf s) (omega (arith, peptides-read s)) (omega (arith, peptides-read s)))
+    (passes (cause3 (familyOf s)) (λ f. omega (arith, leaves-counted (familyOf s) f, leaves-read s)))
+
 -- The edges: each family on the line is accepted, and one step beyond it gives its number.
 pub record Edges : Type 0 where
   pub most-peptides : number (singleLeaf 4096) ≡ 0
   pub too-many-peptides : number (singleLeaf 4097) ≡ 2
-  pub most-leaves : cause3 (lastLeafOnly 4096) ≡ false
-  pub too-many-leaves : cause3 (lastLeafOnly 4097) ≡ true
+  pub most-leaves : (n : ℕ) → 1 ≤ n → n ≤ 4096 → number (lastLeafOnly n) ≡ 0
+  pub too-many-leaves : (n : ℕ) → 4096 < n → n < 65536 → number (lastLeafOnly n) ≡ 3
   pub more-leaves-than-peptides : number (lastLeafOnly 9) ≡ 0
   pub no-leaf : number (noneMeasured 0) ≡ 3
   pub nothing-measured : number (noneMeasured 3) ≡ 6
@@ -113,8 +177,8 @@ edges =
     record {
       most-peptides = refl;
       too-many-peptides = refl;
-      most-leaves = refl;
-      too-many-leaves = refl;
+      most-leaves = λ n some most. file-accepted (lastLeafOnly n) (last-leaf-only n some most);
+      too-many-leaves = too-many;
       more-leaves-than-peptides = refl;
       no-leaf = refl;
       nothing-measured = refl;

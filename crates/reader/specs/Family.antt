@@ -1,7 +1,8 @@
 -- The family file: its layout, the family that it holds, and the file of a family.
-use Prim.Native.Nat.{ℕ, _+_, _*_, _-_}
+use Prim.Native.Nat.{ℕ, _+_, _*_, _-_, _≤_}
 use mathlib.Core.Bool.{cond}
 use mathlib.Core.List.{List, [], _∷_, _++_}
+use mathlib.Core.Path.{_≡_}
 use lib.ListN.{length, getD, take}
 use lib.Dec.{leb}
 use Rattle.reader.specs.Lists.{tabulate, sum}
@@ -36,6 +37,10 @@ region F k = getD (F .regions) k noRegion
 -- the length of leaf j, for j from 1 to N; 0 for any other number
 unfoldable pub leafLength : Family → ℕ → ℕ
 leafLength F j = getD (0 ∷ F .lengths) j 0
+
+-- none of the region's leaves has a peptide
+abbrev pub EmptyRegion : Family → Region → Type 0
+EmptyRegion F r = (j : ℕ) → r .first ≤ j → j ≤ r .last → leafLength F j ≡ 0
 
 -- how many peptides the leaves 1 to j have
 unfoldable pub peptidesUpTo : Family → ℕ → ℕ

@@ -5,7 +5,7 @@ use mathlib.Core.Logic.{_⊎_}
 use mathlib.Core.Path.{_≡_}
 use lib.ListN.{length, getD}
 use Rattle.reader.specs.Lists.{sum}
-use Rattle.reader.specs.Family.{Region, Family, leaves, regionCount, region, leafLength}
+use Rattle.reader.specs.Family.{Family, leaves, regionCount, region}
 use Rattle.reader.specs.Nesting.{regionsAround}
 
 -- Every region lies on the leaves, and the regions stand by first leaf rising and, at equal first leaf, by last leaf falling.
@@ -19,10 +19,6 @@ pub record Ordered (F : Family) : Type 0 where
 -- Of any two of the first n regions the later one lies after the earlier one or inside it.
 abbrev pub NestedBelow : Family → ℕ → Type 0
 NestedBelow F n = (i j : ℕ) → i < j → j < n → (region F i .last < region F j .first) ⊎ (region F j .last ≤ region F i .last)
-
--- none of the region's leaves has a peptide
-abbrev pub EmptyRegion : Family → Region → Type 0
-EmptyRegion F r = (j : ℕ) → r .first ≤ j → j ≤ r .last → leafLength F j ≡ 0
 
 pub record WellFormed (F : Family) : Type 0 where
   pub peptides-some : 1 ≤ F .peptides

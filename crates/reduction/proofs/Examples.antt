@@ -5,9 +5,11 @@ use mathlib.Core.List.{List, [], _∷_}
 use mathlib.Core.Path.{_≡_, refl, ap}
 use native.Mathlib.Omega.{arith}
 use lib.ListN.{getD}
-use Rattle.reader.specs.Lists.{tabulate, sum}
+use Rattle.reader.specs.Lists.{tabulate, sum, sameList, someBelow, countBelow}
 use Rattle.reader.specs.Bytes.{numberAt, bytesOf}
-use Rattle.reader.specs.Family.{Region, Family, peptidesUpTo, lengthAt, regionAt, familyOf, regionFields, fields, mark, fileOf}
+use Rattle.reader.specs.Family.{Region, Family, region, peptidesUpTo, lengthAt, regionAt, familyOf, regionFields, fields, mark, fileOf}
+use Rattle.reader.specs.Nesting.{before, shareLeaf, regionWithin, crossing, regionInside}
+use Rattle.reader.specs.Causes.{cause1, cause2, cause3, cause4, cause5, cause6, cause7, cause8, cause9, cause10, misplaced, firstCause, headerCauses, familyCauses, fileCauses, Accepted}
 use Rattle.bounds.specs.Ranges.{rangeOf, rangesOf, has, card, count, some, those, sumOver, within, inside, justInside, parts, outermost, outside}
 use Rattle.bounds.specs.Bound.{totalWithin, total, value, bound, full, isTaken, takenBytes}
 use Rattle.bounds.specs.Selections.{selected, takenOf}
@@ -117,6 +119,7 @@ examples =
 -- The family with empty leaves has the values, the marks and the reduced file of the eight-peptide family;
 -- of its regions those on the leaves 4 and 6 are taken.
 pub record EmptyLeafExample : Type 0 where
+  pub accepted : Accepted (fileOf unmeasured)
   pub curve :
       (curveValues unmeasured fullPath ≡ 0 ∷ 0 ∷ 1 ∷ 2 ∷ 2 ∷ 3 ∷ 4 ∷ 4 ∷ 4 ∷ [])
       × (curveMarks unmeasured fullPath ≡ 0 ∷ 1 ∷ 1 ∷ 0 ∷ 1 ∷ 1 ∷ 0 ∷ 0 ∷ [])
@@ -124,8 +127,8 @@ pub record EmptyLeafExample : Type 0 where
   pub reduction : reducedFile (fileOf unmeasured) ≡ reducedEight
 
 pub empty-leaf-example : EmptyLeafExample
-unfolding reducedOf
-empty-leaf-example = record { curve = (refl, refl); taken = refl; reduction = refl }
+unfolding reducedOf sameList someBelow countBelow region before shareLeaf regionWithin crossing regionInside cause1 cause2 cause3 cause4 cause5 cause6 cause7 cause8 cause9 cause10 misplaced firstCause headerCauses familyCauses fileCauses
+empty-leaf-example = record { accepted = refl; curve = (refl, refl); taken = refl; reduction = refl }
 
 -- No copy of its input and no one fixed file is the reduction: it takes E10 to another file, and E3 and E8 to different ones.
 pub not-a-copy : reducedFile (fileOf (oneLeaf 3 (triple 1 1 5 ∷ []))) ≢ fileOf (oneLeaf 3 (triple 1 1 5 ∷ []))

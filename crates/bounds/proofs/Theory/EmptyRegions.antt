@@ -6,8 +6,7 @@ use mathlib.Core.Path.{_≡_, ap}
 use native.Mathlib.Omega.{arith}
 use borrow.Author.Tests.{ltb-true, leb-true}
 use lib.Dec.{leb, ltb}
-use Rattle.reader.specs.Family.{Region, Family, leafLength, peptidesUpTo}
-use Rattle.reader.specs.WellFormed.{EmptyRegion}
+use Rattle.reader.specs.Family.{Region, Family, leafLength, peptidesUpTo, EmptyRegion}
 use Rattle.bounds.specs.Ranges.{Range, Peptides, rangeOf, has, In}
 use Rattle.bounds.specs.Bound.{total, isTaken}
 use Rattle.bounds.proofs.Basics.Members.{clash, refuted, and-l, and-r}
