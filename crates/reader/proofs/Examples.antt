@@ -13,7 +13,8 @@ use Rattle.reader.specs.Causes.{cause1, cause2, cause3, cause4, cause5, 
 use Rattle.reader.specs.WellFormed.{WellFormed}
 use Rattle.reader.proofs.Bools.{passes}
 use Rattle.reader.proofs.Parsed.{peptides-read, leaves-read}
-use Rattle.reader.proofs.Judged.{from-marked, from-peptides-counted, leaves-counted}
+use Rattle.reader.proofs.Judged.{from-marked, from-peptides-counted, leaves-counted, header-3}
+use Rattle.reader.proofs.Accepting.{file-header}
 use Rattle.reader.proofs.Files.{field-read, file-length, file-accepted}
 use Rattle.reader.specs.Calls.{answer, checked, regionPart, partStart}
 
@@ -65,7 +66,7 @@ singleLeaf m = record { peptides = m; lengths = m ∷ []; regions = [] }
 pub lastLeafOnly : ℕ → Family
 lastLeafOnly n = record { peptides = 1; lengths = replicate (n - 1) 0 ++ (1 ∷ []); regions = range 1 n 0 ∷ [] }
 
--- the given number of empty leaves, and a peptide
+-- m = 1 on n leaves, all of them empty
 pub noneMeasured : ℕ → Family
 noneMeasured n = record { peptides = 1; lengths = replicate n 0; regions = [] }
 
@@ -99,6 +100,7 @@ pub eight-parents : parents eight ≡ 0 ∷ 1 ∷ 1 ∷ 0 ∷ 4 ∷ []
 unfolding number firstBelow regionJustInside parent parents
 eight-parents = refl
 
+-- the lengths of `lastLeafOnly`
 only-length : (k : ℕ) → length {A = ℕ} (replicate k 0 ++ (1 ∷ [])) ≡ suc k
 only-length zero = refl
 only-length (suc k) = ap suc (only-length k)
@@ -140,10 +142,6 @@ last-leaf-only n some most =
     one zero h P p = p
     one (suc k) h P p = absurd (omega arith)
 
-third : (s : List ℕ) → cause1 s ≡ false → cause2 (familyOf s) ≡ false → cause3 (familyOf s) ≡ true → firstCause (fileCauses s) ≡ 3
-unfolding fileCauses firstCause headerCauses
-third s h1 h2 h = rw (h1, h2, h)
-
 too-many : (n : ℕ) → 4096 < n → n < 65536 → firstCause (fileCauses (fileOf (lastLeafOnly n))) ≡ 3
 unfolding lastLeafOnly fields
 too-many n over fits =
@@ -152,10 +150,13 @@ too-many n over fits =
     let many : length (F .lengths) ≡ n = only-length (n - 1) ∙ omega arith in
     let m : numberAt s 4 ≡ 1 = field-read F 0 4 refl (omega arith) in
     let read : numberAt s 6 ≡ length (F .lengths) = field-read F 1 6 refl (omega (arith, many)) in
-    third s
+    let three =
+    header-3 s
     (from-marked s (omega (arith, file-length F)) (unfold fileOf mark in refl))
     (from-peptides-counted (familyOf s) (omega (arith, peptides-read s)) (omega (arith, peptides-read s)))
     (passes (cause3 (familyOf s)) (λ f. omega (arith, leaves-counted (familyOf s) f, leaves-read s)))
+    in
+    file-header s (λ z. omega (arith, three, z)) ∙ three
 
 -- The edges: each family on the line is accepted, and one step beyond it gives its number.
 pub record Edges : Type 0 where
@@ -163,7 +164,6 @@ pub record Edges : Type 0 where
   pub too-many-peptides : number (singleLeaf 4097) ≡ 2
   pub most-leaves : (n : ℕ) → 1 ≤ n → n ≤ 4096 → number (lastLeafOnly n) ≡ 0
   pub too-many-leaves : (n : ℕ) → 4096 < n → n < 65536 → number (lastLeafOnly n) ≡ 3
-  pub more-leaves-than-peptides : number (lastLeafOnly 9) ≡ 0
   pub no-leaf : number (noneMeasured 0) ≡ 3
   pub nothing-measured : number (noneMeasured 3) ≡ 6
   pub most-regions : number comb ≡ 0
@@ -179,7 +179,6 @@ edges =
       too-many-peptides = refl;
       most-leaves = λ n some most. file-accepted (lastLeafOnly n) (last-leaf-only n some most);
       too-many-leaves = too-many;
-      more-leaves-than-peptides = refl;
       no-leaf = refl;
       nothing-measured = refl;
       most-regions = refl;
