@@ -31,6 +31,15 @@ pub fn curve(file: &[u8], path: &[u16], values: &mut [u16], marks: &mut [u8]) ->
     })
 }
 
+/// The values and the marks of an accepted file and path, in room just as long as these.
+pub fn curve_of(file: &[u8], path: &[u16]) -> (Vec<u16>, Vec<u8>) {
+    let mut values = vec![9999; path.len() + 1];
+    let mut marks = vec![99; path.len()];
+    let answer = curve(file, path, &mut values, &mut marks);
+    assert_eq!((answer.number, answer.place), (0, 0));
+    (values, marks)
+}
+
 pub fn cut(file: &[u8], path: &[u16], a: u16, b: u16) -> Cutting {
     reading(file, |file| {
         reading(path, |path| phf::cut(file, path, a, b))

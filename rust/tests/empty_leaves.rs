@@ -5,18 +5,10 @@ use phf_tests::compare;
 use phf_tests::families::{
     all_but_one_empty, binary_tree_on, eight_peptides, file, random_family, Bounds,
 };
-use phf_tests::guarded::{self, reduced};
+use phf_tests::guarded::{self, curve_of, reduced};
 use phf_tests::phf;
 use phf_tests::random::Random;
 use phf_tests::reference::{file_of, pieces, Family, Piece};
-
-fn curve(file: &[u8], path: &[u16]) -> (Vec<u16>, Vec<u8>) {
-    let mut values = vec![9999; path.len() + 1];
-    let mut marks = vec![99; path.len()];
-    let answer = guarded::curve(file, path, &mut values, &mut marks);
-    assert_eq!((answer.number, answer.place), (0, 0));
-    (values, marks)
-}
 
 /// The bound of all peptides, and the taken bytes.
 fn bound_of_all(file: &[u8]) -> (u16, Vec<u8>) {
@@ -67,7 +59,7 @@ fn one_peptide_in_the_most_leaves() {
         };
         assert_eq!(guarded::regions(&file), part);
         assert_eq!(bound_of_all(&file), (1, vec![]));
-        assert_eq!(curve(&file, &[1]), (vec![0, 1], vec![1]));
+        assert_eq!(curve_of(&file, &[1]), (vec![0, 1], vec![1]));
         assert_eq!(guarded::cut(&file, &[1], 1, 1).cut, 1);
         assert_eq!(guarded::cut(&file, &[1], 1, 2).cut, 0);
         assert_eq!(reduced(&file), plain);
@@ -108,13 +100,13 @@ fn the_most_regions_over_one_peptide() {
         // no region with z = 0 has the peptide
         let free = file_of(&largest_tree(leaf, 1, 1, 0));
         assert_eq!(bound_of_all(&free), (1, vec![0; 8191]));
-        assert_eq!(curve(&free, &[1]), (vec![0, 1], vec![1]));
+        assert_eq!(curve_of(&free, &[1]), (vec![0, 1], vec![1]));
         assert_eq!(reduced(&free), file(&[1], &[]));
         // the inside total of the innermost is 1, of those around it 0
         let tree = largest_tree(leaf, 0, 0, 7);
         let whole = file_of(&tree);
         assert_eq!(bound_of_all(&whole), (0, taken_only(&tree, leaf, 0)));
-        assert_eq!(curve(&whole, &[1]), (vec![0, 0], vec![0]));
+        assert_eq!(curve_of(&whole, &[1]), (vec![0, 0], vec![0]));
         assert_eq!(reduced(&whole), dead);
         // the innermost lets the peptide pass, and the region just around it does not
         let tree = largest_tree(leaf, 1, 0, 7);
@@ -137,7 +129,7 @@ fn regions_over_empty_leaves_only() {
         all_calls(&family);
         assert_eq!(bound_of_all(&family), (3, vec![0; 5]));
         let path = [3, 1, 2];
-        assert_eq!(curve(&family, &path), (vec![0, 1, 2, 3], vec![1, 1, 1]));
+        assert_eq!(curve_of(&family, &path), (vec![0, 1, 2, 3], vec![1, 1, 1]));
         assert_eq!(reduced(&family), file(&[3], &[]));
     }
 }
@@ -150,7 +142,7 @@ fn empty_regions_inside_others() {
     all_calls(&family);
     assert_eq!(bound_of_all(&family), (2, vec![1, 0, 0]));
     assert_eq!(
-        curve(&family, &[2, 3, 1]),
+        curve_of(&family, &[2, 3, 1]),
         (vec![0, 1, 2, 2], vec![1, 1, 0])
     );
     assert_eq!(reduced(&family), file(&[3], &[(1, 1, 2)]));
@@ -195,7 +187,7 @@ fn three_regions_with_the_same_peptides_and_one_around() {
     // the inside totals are, from the innermost, 3, 2, 1 and 1 + 1
     assert_eq!(bound_of_all(&family), (2, vec![0, 0, 1, 0]));
     assert_eq!(
-        curve(&family, &[4, 2, 1, 3]),
+        curve_of(&family, &[4, 2, 1, 3]),
         (vec![0, 1, 1, 2, 2], vec![1, 0, 1, 0])
     );
     assert_eq!(reduced(&family), file(&[1, 3], &[(2, 2, 1)]));
@@ -214,7 +206,7 @@ fn empty_first_and_last_leaf() {
     all_calls(&family);
     assert_eq!(bound_of_all(&family), (3, vec![1, 1]));
     assert_eq!(
-        curve(&family, &[5, 1, 4, 2, 3]),
+        curve_of(&family, &[5, 1, 4, 2, 3]),
         (vec![0, 1, 2, 3, 3, 3], vec![1, 1, 1, 0, 0])
     );
     let plain = file(&[2, 3], &[(1, 1, 1), (2, 2, 2)]);
@@ -231,7 +223,7 @@ fn the_leaf_of_a_peptide_among_empty_ones() {
             let regions: Vec<(u16, u16, u16)> = (1..=n).map(|j| (j, j, z(j))).collect();
             let lengths = all_but_one_empty(n as usize, leaf as usize, 2);
             let family = file(&lengths, &regions);
-            assert_eq!(curve(&family, &[2, 1]), (vec![0, 1, 1], vec![1, 0]));
+            assert_eq!(curve_of(&family, &[2, 1]), (vec![0, 1, 1], vec![1, 0]));
             assert_eq!(reduced(&family), file(&[2], &[(1, 1, 1)]));
         }
     }
@@ -256,7 +248,7 @@ fn the_eight_peptides_among_empty_leaves() {
     all_calls(&strewn);
     let path = [7, 3, 1, 4, 6, 2, 5, 8];
     assert_eq!(
-        curve(&strewn, &path),
+        curve_of(&strewn, &path),
         (
             vec![0, 0, 1, 2, 2, 3, 4, 4, 4],
             vec![0, 1, 1, 0, 1, 1, 0, 0]

@@ -3,16 +3,8 @@
 //! here was copied from these two texts.
 
 use phf_tests::families::{eight_peptides, file};
-use phf_tests::guarded::{self, reduced};
+use phf_tests::guarded::{self, curve_of, reduced};
 use phf_tests::reference::file_of;
-
-fn curve(file: &[u8], path: &[u16]) -> (Vec<u16>, Vec<u8>) {
-    let mut values = vec![9999; path.len() + 1];
-    let mut marks = vec![99; path.len()];
-    let answer = guarded::curve(file, path, &mut values, &mut marks);
-    assert_eq!((answer.number, answer.place), (0, 0));
-    (values, marks)
-}
 
 fn hexadecimal(text: &str) -> Vec<u8> {
     text.split_whitespace()
@@ -29,7 +21,7 @@ const EIGHT_PATH: [u16; 8] = [7, 3, 1, 4, 6, 2, 5, 8];
 
 #[test]
 fn e1_the_curve() {
-    let (values, marks) = curve(&file_of(&eight_peptides()), &EIGHT_PATH);
+    let (values, marks) = curve_of(&file_of(&eight_peptides()), &EIGHT_PATH);
     assert_eq!(values, [0, 0, 1, 2, 2, 3, 4, 4, 4]);
     assert_eq!(marks, [0, 1, 1, 0, 1, 1, 0, 0]);
 }
@@ -70,16 +62,16 @@ fn e7_a_smaller_bound_shows() {
     let after = file_of(&family);
     assert_ne!(reduced(&before), reduced(&after));
     assert_eq!(guarded::same(&before, &after).same, 0);
-    assert_eq!(curve(&after, &[3, 1, 2]).0, [0, 1, 2, 2]);
-    assert_eq!(curve(&before, &[3, 1, 2]).0, [0, 1, 2, 3]);
+    assert_eq!(curve_of(&after, &[3, 1, 2]).0, [0, 1, 2, 2]);
+    assert_eq!(curve_of(&before, &[3, 1, 2]).0, [0, 1, 2, 3]);
 }
 
 #[test]
 fn e8_to_e10_one_leaf() {
     let plain = file(&[3], &[]);
-    assert_eq!(curve(&plain, &[2, 1, 3]).0, [0, 1, 2, 3]);
+    assert_eq!(curve_of(&plain, &[2, 1, 3]).0, [0, 1, 2, 3]);
     assert_eq!(reduced(&plain), plain);
-    assert_eq!(curve(&file(&[1], &[(1, 1, 0)]), &[1]).0, [0, 0]);
+    assert_eq!(curve_of(&file(&[1], &[(1, 1, 0)]), &[1]).0, [0, 0]);
     let loose = file(&[3], &[(1, 1, 5)]);
     assert_eq!(reduced(&loose), plain);
 }
@@ -110,7 +102,7 @@ const PUBLISHED_PATH: [u16; 9] = [11, 17, 12, 13, 18, 24, 19, 22, 5];
 #[test]
 fn the_published_curve() {
     for completed in [false, true] {
-        let (values, marks) = curve(&published(completed), &PUBLISHED_PATH);
+        let (values, marks) = curve_of(&published(completed), &PUBLISHED_PATH);
         assert_eq!(values, [0, 1, 2, 3, 3, 4, 5, 5, 5, 5]);
         assert_eq!(marks, [1, 1, 1, 0, 1, 1, 0, 0, 0]);
     }
