@@ -23,9 +23,8 @@ use Rattle.bounds.specs.AcceptedCalls.{BoundCall}
 use Rattle.bounds.proofs.Basics.Members.{bit, clash}
 use Rattle.bounds.proofs.Basics.Counting.{none, count-none, count-mono}
 use Rattle.bounds.proofs.Theory.Greedy.{Respects}
-use Rattle.bounds.proofs.Theory.Family.{accepted-laminar, range-in}
+use Rattle.bounds.proofs.Theory.Family.{accepted-laminar, over-regions, range-in}
 use Rattle.bounds.proofs.Theory.EmptyRegions.{empty-holds-none, empty-not-taken}
-use Rattle.bounds.proofs.Summing.TakenBytes.{over-regions}
 use Rattle.bounds.proofs.Calls.SelectionCalls.{selection-clear}
 use Rattle.reduction.specs.Reduction.{dead, live, reducedFile}
 use Rattle.reduction.specs.Alike.{Alike, Covered}

@@ -1,7 +1,7 @@
 -- The taken bytes as they are found in file order, and the lists that the calls write.
 use Prim.Native.Nat.{ℕ, zero, suc, _+_, _-_, _≤_, _<_}
 use mathlib.Core.Bool.{Bool, true, false, cond, and-false}
-use mathlib.Core.List.{List, [], _∷_, _++_, map}
+use mathlib.Core.List.{List, _++_}
 use mathlib.Core.Logic.{_⊎_, inl, inr, ⊎-elim}
 use mathlib.Core.Path.{_≡_, refl, sym, ap, _∙_}
 use native.Mathlib.Nat.{eq-or-lt-of-le, le-of-suc-le-suc}
@@ -15,7 +15,7 @@ use Rattle.reader.specs.Lists.{tabulate}
 use Rattle.reader.specs.Family.{Family, regionCount, region}
 use Rattle.reader.specs.WellFormed.{WellFormed}
 use Rattle.reader.proofs.Lists.{length-tabulate, getD-tabulate, copy-more, tabulate-same}
-use Rattle.bounds.specs.Ranges.{Range, Peptides, rangeOf, rangesOf, In, rangeAt}
+use Rattle.bounds.specs.Ranges.{Range, Peptides, rangesOf, In, rangeAt}
 use Rattle.bounds.specs.Bound.{total, full, isTaken, takenBytes}
 use Rattle.bounds.specs.Selections.{selected, takenOf, totalsOf}
 use Rattle.bounds.specs.Private.Rows.{Stored}
@@ -24,15 +24,10 @@ use Rattle.bounds.proofs.Basics.Members.{test, le-or-lt, clash, both-wa
 use Rattle.bounds.proofs.Basics.Nesting.{Inside, inside-trans, AtOrIn, widest}
 use Rattle.bounds.proofs.Theory.Laminar.{line, line-around}
 use Rattle.bounds.proofs.Theory.Taken.{Taken, taken-facts, taken-holds, full-facts, full-holds}
-use Rattle.bounds.proofs.Theory.Family.{noRange, ranges-length, range-at, range-z, of-region, range-in}
+use Rattle.bounds.proofs.Theory.Family.{ranges-length, over-regions, range-z, of-region, range-in}
 use Rattle.bounds.proofs.Summing.RowTotals.{inside-before, inside-block}
 
 -- Lists written by their places.
-
-map-tabulate : {A B : Type 0} (d : A) (f : A → B) (L : List A) → map f L ≡ tabulate (length L) (λ k. f (getD L k d))
-unfolding tabulate
-map-tabulate d f [] = refl
-map-tabulate d f (x ∷ L) = ap (λ M. f x ∷ M) (map-tabulate d f L)
 
 -- a list whose first n elements are given, and the others as before
 written-below : (n : ℕ) (g : ℕ → ℕ) (old new : List ℕ) → length new ≡ length old → n ≤ length old → ((k : ℕ) → k < n → getD new k 0 ≡ g k)
@@ -48,13 +43,6 @@ written-below n g old new e room front back = sym (take-append-drop n new) ∙ r
     backs =
         ext-getD 0 (drop n new) (drop n old) (length-drop n new ∙ ap (λ (k : ℕ). k - n) e ∙ sym (length-drop n old))
         (λ k l. getD-drop n new k 0 ∙ back (n + k) (omega arith) ∙ sym (getD-drop n old k 0))
-
--- a list over the ranges of a family, by its regions
-pub over-regions : (F : Family) (f : Range → ℕ) → map f (rangesOf F) ≡ tabulate (regionCount F) (λ k. f (rangeAt F k))
-over-regions F f =
-    map-tabulate (noRange F) f (rangesOf F)
-    ∙ ap (λ (n : ℕ). tabulate n (λ k. f (getD (rangesOf F) k (noRange F)))) (ranges-length F)
-    ∙ tabulate-same (regionCount F) (λ k. f (getD (rangesOf F) k (noRange F))) (λ k. f (rangeOf F (region F k))) (λ k l. ap f (range-at F k))
 
 -- The inside totals as they are stored.
 pub totals-written : (F : Family) (selection old new : List ℕ) → length new ≡ length old → regionCount F ≤ length old

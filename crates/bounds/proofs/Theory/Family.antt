@@ -1,17 +1,18 @@
 -- The ranges of a family are laminar.
 use Prim.Native.Nat.{ℕ, zero, suc, _+_, _-_, _≤_, _<_}
-use mathlib.Core.List.{List, [], _∷_}
+use mathlib.Core.List.{List, [], _∷_, map}
 use mathlib.Core.Logic.{⊎-elim}
-use mathlib.Core.Path.{_≡_, refl, _∙_}
+use mathlib.Core.Path.{_≡_, refl, ap, _∙_}
 use native.Mathlib.Nat.{eq-or-lt-of-le}
 use native.Mathlib.Numerals.{add-one}
 use native.Mathlib.Omega.{arith}
 use lib.ListN.{length, getD, take, length-map, List·getD-map}
 use lib.Seq.{take-length}
-use Rattle.reader.specs.Lists.{sum}
+use Rattle.reader.specs.Lists.{tabulate, sum}
 use Rattle.reader.specs.Bytes.{IsBytes}
 use Rattle.reader.specs.Causes.{Accepted}
 use Rattle.reader.specs.WellFormed.{WellFormed}
+use Rattle.reader.proofs.Lists.{tabulate-same}
 use Rattle.reader.proofs.Parsed.{length-leaf}
 use Rattle.reader.proofs.Walk.{up-to-next}
 use Rattle.reader.proofs.Accepting.{well-formed}
@@ -65,6 +66,18 @@ ranges-length F = length-map (F .regions) (rangeOf F)
 pub range-at : (F : Family) (k : ℕ) → getD (rangesOf F) k (noRange F) ≡ rangeOf F (region F k)
 unfolding rangesOf region
 range-at F k = List·getD-map (rangeOf F) (F .regions) k noRegion
+
+map-tabulate : {A B : Type 0} (d : A) (f : A → B) (L : List A) → map f L ≡ tabulate (length L) (λ k. f (getD L k d))
+unfolding tabulate
+map-tabulate d f [] = refl
+map-tabulate d f (x ∷ L) = ap (λ M. f x ∷ M) (map-tabulate d f L)
+
+-- a list over the ranges of a family, by its regions
+pub over-regions : (F : Family) (f : Range → ℕ) → map f (rangesOf F) ≡ tabulate (regionCount F) (λ k. f (rangeAt F k))
+over-regions F f =
+    map-tabulate (noRange F) f (rangesOf F)
+    ∙ ap (λ (n : ℕ). tabulate n (λ k. f (getD (rangesOf F) k (noRange F)))) (ranges-length F)
+    ∙ tabulate-same (regionCount F) (λ k. f (getD (rangesOf F) k (noRange F))) (λ k. f (rangeOf F (region F k))) (λ k l. ap f (range-at F k))
 
 pub range-in : (F : Family) (k : ℕ) → k < regionCount F → In (rangeOf F (region F k)) (rangesOf F)
 range-in F k h = rw (range-at F k) at (in-at (noRange F) (rangesOf F) k (omega (arith, ranges-length F)))

@@ -46,6 +46,9 @@ module _ (f : List ℕ) (bytes : IsBytes f) (accepted : Accepted f) where
   pub reduced-file-alike : Alike (familyOf f) (familyOf (reducedFile f))
   reduced-file-alike = rw reduced-read (reduced-alike (familyOf f) family)
 
+  pub reduced-file-again : reducedFile (reducedFile f) ≡ reducedFile f
+  reduced-file-again = unfold reducedFile in ap fileOf (ap reducedFamily reduced-read ∙ reduced-again (familyOf f) family)
+
   -- None of its leaves is empty.
   pub reduced-file-measured : (j : ℕ) → 1 ≤ j → j ≤ leaves (familyOf (reducedFile f)) → 1 ≤ leafLength (familyOf (reducedFile f)) j
   unfolding reducedFamily
@@ -54,9 +57,6 @@ module _ (f : List ℕ) (bytes : IsBytes f) (accepted : Accepted f) where
       all : (j : ℕ) → 1 ≤ j → j ≤ leaves (reducedFamily (familyOf f)) → 1 ≤ leafLength (reducedFamily (familyOf f)) j
       all zero some h = absurd (omega arith)
       all (suc j) some h = rw (length-leaf (reducedFamily (familyOf f)) j) (lengths-some _ _ j (omega arith))
-
-  pub reduced-file-again : reducedFile (reducedFile f) ≡ reducedFile f
-  reduced-file-again = unfold reducedFile in ap fileOf (ap reducedFamily reduced-read ∙ reduced-again (familyOf f) family)
 
   -- It is no longer than the file, so an output as long as the file suffices.
   pub reduced-file-fits : length (reducedFile f) ≤ length f
