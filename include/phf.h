@@ -60,7 +60,7 @@ extern "C" {
  * MINOR rises then. PATCH rises when all of these stay as they are.
  */
 #define PHF_VERSION_MAJOR 0
-#define PHF_VERSION_MINOR 10
+#define PHF_VERSION_MINOR 11
 #define PHF_VERSION_PATCH 0
 
 /* The largest sizes: peptides, leaves, regions, and bytes of a family file. */
@@ -100,7 +100,7 @@ enum phf_number {
     PHF_PATH_TOO_LONG = 11,
     /* a number of the path is 0 or over m */
     PHF_BAD_PATH_NUMBER = 12,
-    /* a peptide stands twice in the path; `place` is where (counted from 1) one stands that stood earlier too */
+    /* a peptide stands twice in the path; `place` is the first place, counted from 1, whose peptide stands earlier too */
     PHF_PEPTIDE_TWICE = 13,
     /* the selection is not m bytes, or has a byte over 1 */
     PHF_BAD_SELECTION = 14,
@@ -160,6 +160,9 @@ phf_bounded phf_bound(const uint8_t *file, size_t file_len,
  *         the rest is unchanged.
  * marks:  at least T bytes; marks[t - 1] becomes 1 if values[t] is one more than values[t - 1], else 0, for t from 1 to T,
  *         and the rest is unchanged.
+ *
+ * `place` is 0 unless the number is PHF_PEPTIDE_TWICE. With it, path[place - 1] stands earlier in the path too, and the numbers
+ * before it are all different, so that a path can be corrected from the top.
  */
 typedef struct phf_curved {
     uint16_t number;
@@ -173,7 +176,8 @@ phf_curved phf_curve(const uint8_t *file, size_t file_len,
 
 /*
  * How far down the ranking the fraction of false peptides stays at most a / b: `cut` is the largest t, 0 included, at
- * which values[t] * b <= a * t. It may lie behind places where that does not hold. Causes 1 to 13, 15.
+ * which values[t] * b <= a * t. It may lie behind places where that does not hold. Causes 1 to 13, 15; `place` as in
+ * phf_curve.
  */
 typedef struct phf_cutting {
     uint16_t number;

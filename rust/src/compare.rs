@@ -94,7 +94,7 @@ pub fn curve(file: &[u8], path: &[u16], values_room: usize, marks_room: usize) -
             assert_eq!(marks, with_front(&marked, &marks_before));
         }
         Err(refusal) => {
-            declined(&refusal, answer.number, answer.place);
+            assert_eq!((answer.number, answer.place), told(refusal));
             assert_eq!(values, values_before);
             assert_eq!(marks, marks_before);
         }
@@ -115,25 +115,16 @@ pub fn cut(file: &[u8], path: &[u16], a: u16, b: u16) -> u16 {
             assert_eq!(answer, expected);
         }
         Err(refusal) => {
-            declined(&refusal, answer.number, answer.place);
+            assert_eq!((answer.number, answer.place), told(refusal));
             assert_eq!(answer.cut, 0);
         }
     }
     answer.number
 }
 
-/// The number, and with 13 one of the places that repeat, else no place.
-fn declined(refusal: &reference::Refusal, number: u16, place: u16) {
-    assert_eq!(number, refusal.number);
-    if number == 13 {
-        assert!(
-            refusal.places.contains(&place),
-            "place {place} is not one of {:?}",
-            refusal.places
-        );
-    } else {
-        assert_eq!(place, 0);
-    }
+/// The number and the place of a refusal.
+fn told(refusal: reference::Refusal) -> (u16, u16) {
+    (refusal.number, refusal.place)
 }
 
 /// The reduction into `room` places; the number.

@@ -117,18 +117,19 @@ fn inside(r: &Region, q: &Region) -> bool {
 
 // Causes 11 to 16.
 
-/// Why a call declines: the number, and with 13 every place, counted from 1, whose peptide stands earlier too.
-#[derive(Clone, Debug, PartialEq, Eq)]
+/// Why a call declines: the number, and with 13 the first place, counted from 1, whose peptide stands earlier too, else 0.
+#[derive(Clone, Copy, Debug, PartialEq, Eq)]
 pub struct Refusal {
     pub number: u16,
-    pub places: Vec<u16>,
+    pub place: u16,
 }
 
 fn refusal(number: u16) -> Refusal {
-    Refusal {
-        number,
-        places: Vec::new(),
-    }
+    Refusal { number, place: 0 }
+}
+
+fn stands_earlier(path: &[u16], place: usize) -> bool {
+    path[..place - 1].contains(&path[place - 1])
 }
 
 fn check_path(m: u16, path: &[u16]) -> Result<(), Refusal> {
@@ -138,17 +139,12 @@ fn check_path(m: u16, path: &[u16]) -> Result<(), Refusal> {
     if path.iter().any(|p| *p == 0 || *p > m) {
         return Err(refusal(12));
     }
-    let mut seen = BTreeSet::new();
-    let mut places = Vec::new();
-    for (i, p) in path.iter().enumerate() {
-        if !seen.insert(*p) {
-            places.push(i as u16 + 1);
-        }
-    }
-    if places.is_empty() {
-        Ok(())
-    } else {
-        Err(Refusal { number: 13, places })
+    match (1..=path.len()).find(|place| stands_earlier(path, *place)) {
+        None => Ok(()),
+        Some(place) => Err(Refusal {
+            number: 13,
+            place: place as u16,
+        }),
     }
 }
 

@@ -32,7 +32,7 @@ use Rattle.bounds.proofs.Theory.Formula.{bound-same}
 use Rattle.bounds.proofs.Theory.Taken.{takenBy-those, takenBy-most}
 use Rattle.bounds.proofs.Theory.Family.{accepted-laminar}
 use Rattle.bounds.proofs.Calls.SelectionCalls.{selection-clear}
-use Rattle.bounds.proofs.Calls.Answering.{curve-clear, cut-clear}
+use Rattle.bounds.proofs.Calls.Answering.{path-answers, curve-clear, cut-clear}
 use Rattle.reader.proofs.Accepting.{well-formed}
 use Rattle.bounds.proofs.Calls.PathLaws.{accepted-path}
 use Rattle.bounds.proofs.Theory.Marks.{entry-start}
@@ -148,13 +148,10 @@ module _ (f : AcceptedFile) (c : CutCall f) where
   unfolding reportCut
   answers-cut = go (c .answer) (c .answers)
     where
-      said : (r : CutFound) → CutAnswers (f .file) (c .path) (c .a) (c .b) r → reportCut r .values ≡ theCut ∷ []
-      said r p = p .values (λ e. omega (arith, no-cause)) ∙ ap (λ (r : Report). r .values) (answers _ no-cause (theCut ∷ []))
-
       go : (r : CutFound) → CutAnswers (f .file) (c .path) (c .a) (c .b) r → r ≡ cutFound.At theCut
-      go (cutFound.At t) p = cc (said (cutFound.At t) p)
-      go (cutFound.Refused n) p = let e = ap length (said (cutFound.Refused n) p) in absurd (omega arith)
-      go (cutFound.Repeated t) p = absurd (omega (arith, p .number, no-cause))
+      go (cutFound.At t) p = cc (ap (λ (r : Report). r .values) (p ∙ path-answers _ (c .path) (theCut ∷ []) no-cause))
+      go (cutFound.Refused n) p = let e = ap (λ (r : Report). length (r .values)) (p ∙ path-answers _ (c .path) (theCut ∷ []) no-cause) in absurd (omega arith)
+      go (cutFound.Repeated t) p = let e = ap (λ (r : Report). r .number) (p ∙ path-answers _ (c .path) (theCut ∷ []) no-cause) in absurd (omega arith)
 
 -- A call of `bound`.
 

@@ -5,3 +5,4 @@ pub mod Calls
 pub mod Summing
 pub mod Walking
 pub mod DemandTwo
+pub mod Examples

@@ -1,6 +1,6 @@
 -- What the calls of `bounds` answer and write, defined from their inputs.
-use Prim.Native.Nat.{ℕ, _+_, _≤_}
-use mathlib.Core.Bool.{Bool, true, false, not, _||_}
+use Prim.Native.Nat.{ℕ, _+_}
+use mathlib.Core.Bool.{Bool, true, false, not, cond, _||_}
 use mathlib.Core.List.{List, [], _∷_, _++_}
 use mathlib.Core.Path.{_≡_}
 use lib.ListN.{length}
@@ -9,7 +9,7 @@ use Rattle.reader.specs.Family.{familyOf, regionCount}
 use Rattle.reader.specs.Causes.{Cause, firstCause, fileCauses}
 use Rattle.reader.specs.Calls.{Report, answer, written, short}
 use Rattle.bounds.specs.Selections.{boundOf, takenOf, totalsOf, cause14}
-use Rattle.bounds.specs.Curves.{curveValues, curveMarks, cutOf, cause11, cause12, repeated, cause13, cause15}
+use Rattle.bounds.specs.Curves.{curveValues, curveMarks, cutOf, cause11, cause12, cause13, firstRepeat, cause15}
 use Rattle.bounds.specs.declared.Bounded.{Bounded}
 use Rattle.bounds.specs.declared.Bounded.the-variants as bounded
 use Rattle.bounds.specs.declared.Curved.{Curved}
@@ -76,12 +76,13 @@ curveCauses file path values marks =
 unfoldable pub cutCauses : List ℕ → List ℕ → ℕ → ℕ → List Cause
 cutCauses file path a b = inputCauses file path ++ (record { number = 15; holds = cause15 a b } ∷ [])
 
--- The answer of a call with a path is the one that its causes and values give, but for number 13: with it comes one place,
--- counted from 1, whose peptide stands earlier too; which such place is free.
-pub record Answers (cs : List Cause) (path result : List ℕ) (r : Report) : Type 0 where
-  pub number : r .number ≡ firstCause cs
-  pub values : (firstCause cs ≡ 13 → ⊥) → r .values ≡ answer cs result .values
-  pub place : firstCause cs ≡ 13 → (p : ℕ) × (1 ≤ p) × (p ≤ length path) × (r .values ≡ p ∷ []) × (repeated path p ≡ true)
+-- The refusal of a call with a path: with number 13 comes the first place whose peptide stands earlier too, with any other none.
+unfoldable pub pathRefusal : List ℕ → ℕ → Report
+pathRefusal path n = record { number = n; values = cond (eqb n 13) (firstRepeat path ∷ []) [] }
+
+-- A call with a path and these causes answers its refusal with the number of the first that holds, else the values.
+unfoldable pub pathAnswer : List Cause → List ℕ → List ℕ → Report
+pathAnswer cs path values = cond (eqb (firstCause cs) 0) (record { number = 0; values = values }) (pathRefusal path (firstCause cs))
 
 -- What the calls promise. A list that is lent for an output stands for what it held before the call; new is what the call
 -- leaves in it.
@@ -100,7 +101,7 @@ TotalsWrites file selection out new = new ≡ written (selectionCauses file sele
 
 -- the answer r of `curve`, its values and its marks
 abbrev pub CurveAnswers : List ℕ → List ℕ → List ℕ → List ℕ → Curved → Type 0
-CurveAnswers file path values marks r = Answers (curveCauses file path values marks) path [] (reportCurve r)
+CurveAnswers file path values marks r = reportCurve r ≡ pathAnswer (curveCauses file path values marks) path []
 
 abbrev pub CurveValuesWrites : List ℕ → List ℕ → List ℕ → List ℕ → List ℕ → Type 0
 CurveValuesWrites file path values marks new = new ≡ written (curveCauses file path values marks) (curveValues (familyOf file) path) values
@@ -114,4 +115,4 @@ CurveDeclines file path values marks r = declinedCurve r ≡ not (eqb (firstCaus
 
 -- the answer r of `cut`
 abbrev pub CutAnswers : List ℕ → List ℕ → ℕ → ℕ → CutFound → Type 0
-CutAnswers file path a b r = Answers (cutCauses file path a b) path (cutOf (familyOf file) path a b ∷ []) (reportCut r)
+CutAnswers file path a b r = reportCut r ≡ pathAnswer (cutCauses file path a b) path (cutOf (familyOf file) path a b ∷ [])

@@ -1,10 +1,11 @@
 -- A path of different peptides, its curve and marks, and the cut.
-use Prim.Native.Nat.{ℕ, zero, suc, _+_, _-_, _*_, _≤_}
+use Prim.Native.Nat.{ℕ, zero, suc, _+_, _-_, _*_, _≤_, _<_}
 use mathlib.Core.Bool.{Bool, cond, _||_}
 use mathlib.Core.List.{List}
+use mathlib.Core.Path.{_≡_}
 use lib.ListN.{length, getD, take}
 use lib.Dec.{eqb, leb, ltb}
-use Rattle.reader.specs.Lists.{tabulate, someBelow}
+use Rattle.reader.specs.Lists.{tabulate, someBelow, firstBelow}
 use Rattle.reader.specs.Family.{Family}
 use Rattle.bounds.specs.Ranges.{Peptides, some, rangesOf}
 use Rattle.bounds.specs.Bound.{bound}
@@ -59,6 +60,21 @@ repeated path t = someBelow (t - 1) (λ i. eqb (getD path i 0) (getD path (t - 1
 -- a peptide twice in the path
 unfoldable pub cause13 : List ℕ → Bool
 cause13 path = someBelow (length path) (λ i. repeated path (i + 1))
+
+-- the first place, counted from 1, whose peptide stands earlier too; 0 if there is none
+unfoldable pub firstRepeat : List ℕ → ℕ
+firstRepeat path = firstBelow (length path) (λ i. repeated path (i + 1))
+
+-- the peptide at place t, counted from 1
+abbrev pub peptideAt : List ℕ → ℕ → ℕ
+peptideAt path t = getD path (t - 1) 0
+
+-- p is the first such place: from 2 to T, its peptide stands at an earlier place q too, and the peptides before p are all different
+pub record IsFirstRepeat (path : List ℕ) (p : ℕ) : Type 0 where
+  pub from-two : 2 ≤ p
+  pub most : p ≤ length path
+  pub earlier : (q : ℕ) × (1 ≤ q) × (q < p) × (peptideAt path q ≡ peptideAt path p)
+  pub first : (q r : ℕ) → 1 ≤ q → q < r → r < p → peptideAt path q ≡ peptideAt path r → ⊥
 
 -- b is 0, or a over b
 unfoldable pub cause15 : ℕ → ℕ → Bool

@@ -22,14 +22,15 @@ pub enum Bounded {
     Refused(u16),
 }
 
-// The curve is written, or the number of the first cause that holds; number 13 with the place of a peptide that stands earlier too.
+// The curve is written, or the number of the first cause that holds; number 13 with the first place, counted from 1, whose peptide
+// stands earlier too.
 pub enum Curved {
     Written,
     Refused(u16),
     Repeated(u16),
 }
 
-// The cut, or the number of the first cause that holds; number 13 with the place of a peptide that stands earlier too.
+// The cut, or the number of the first cause that holds; number 13 with the first place, as in `Curved`.
 pub enum CutFound {
     At(u16),
     Refused(u16),

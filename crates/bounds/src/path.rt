@@ -3,8 +3,8 @@ use reader::Checked;
 ghost use mathlib.Core.Path.{_≡_};
 ghost use Prim.Native.Nat.{ℕ, _<_, _≤_};
 ghost use lib.ListN.{length, getD};
-ghost use Rattle.bounds.specs.Curves.{cause12};
-ghost use Rattle.bounds.specs.Private.Walks.{numberCause, firstRepeat, Admission};
+ghost use Rattle.bounds.specs.Curves.{cause12, firstRepeat};
+ghost use Rattle.bounds.specs.Private.Walks.{numberCause, Admission};
 
 // The family and the path are accepted, or the number of the first cause that holds; number 13 with the first place
 // whose peptide stands earlier too.

@@ -10,7 +10,7 @@ use lib.Dec.{eqb}
 use borrow.Author.Tests.{ne-eqb, eqb-true, eqb-false, le-ltb, ltb-false, not-true, not-false}
 use Rattle.reader.specs.Family.{Family, familyOf}
 use Rattle.reader.specs.Causes.{Cause, firstCause, headerCauses, familyCauses, fileCauses, Accepted}
-use Rattle.reader.specs.Calls.{short}
+use Rattle.reader.specs.Calls.{Report, short}
 use Rattle.reader.proofs.Bools.{or-neither}
 use Rattle.reader.proofs.Lists.{length-tabulate}
 use Rattle.reader.proofs.First.{Numbered, first-fails, head-clear, join-clear, join-holds, clear-left, clear-right, none-or-some}
@@ -19,7 +19,8 @@ use Rattle.reader.proofs.Accepting.{accepted-header, file-numbered}
 use Rattle.bounds.specs.Curves.{curveValues, curveMarks, entry, markAt, cause11}
 use Rattle.bounds.specs.declared.Curved.{Curved}
 use Rattle.bounds.specs.declared.Curved.the-variants as curved
-use Rattle.bounds.specs.Calls.{Answers, reportCurve, declinedCurve, pathCauses, inputCauses, curveCauses}
+use Rattle.bounds.specs.Calls.{reportCurve, declinedCurve, pathCauses, inputCauses, curveCauses, pathAnswer}
+use Rattle.bounds.proofs.Calls.Answering.{path-number}
 use Rattle.curve.specs.Text.{heading, rows, rowAt, lineOf, tableOf, refusal}
 use Rattle.curve.specs.Program.{pathOf, odd, programCauses, textOf, output}
 
@@ -136,11 +137,14 @@ module _ (cs : List Cause) (r : Curved) (told : declinedCurve r ≡ not (eqb (fi
   unfolding declinedCurve
   refused-some n e = eqb-false (firstCause cs) 0 (not-true (eqb (firstCause cs) 0) (sym told ∙ ap declinedCurve e))
 
-module _ (cs : List Cause) (path : List ℕ) (r : Curved) (a : Answers cs path [] (reportCurve r)) where
+module _ (cs : List Cause) (path : List ℕ) (r : Curved) (a : reportCurve r ≡ pathAnswer cs path []) where
+  number-told : reportCurve r .number ≡ firstCause cs
+  number-told = ap (λ (t : Report). t .number) a ∙ path-number cs path []
+
   pub refused-number : (n : ℕ) → r ≡ curved.Refused n → n ≡ firstCause cs
   unfolding reportCurve
-  refused-number n e = ap (λ (q : Curved). reportCurve q .number) (sym e) ∙ a .number
+  refused-number n e = ap (λ (q : Curved). reportCurve q .number) (sym e) ∙ number-told
 
   pub repeated-number : (p : ℕ) → r ≡ curved.Repeated p → _≡_ {A = ℕ} 13 (firstCause cs)
   unfolding reportCurve
-  repeated-number p e = ap (λ (q : Curved). reportCurve q .number) (sym e) ∙ a .number
+  repeated-number p e = ap (λ (q : Curved). reportCurve q .number) (sym e) ∙ number-told

@@ -6,10 +6,10 @@
 use Prim.Native.Nat.{ℕ, _+_, _*_}
 use mathlib.Core.Bool.{cond}
 use mathlib.Core.List.{List, [], _∷_}
-use mathlib.Core.Path.{_≡_, refl, sym, ap, ap₂, _∙_}
+use mathlib.Core.Path.{_≡_, refl, sym, ap, _∙_}
 use mathlib.Core.Logic.{_⊎_, inl, inr, ⊎-elim, _↔_}
 use native.Mathlib.Omega.{arith}
-use lib.ListN.{length, getD, drop, length-drop, drop-of-length-le}
+use lib.ListN.{length, drop, length-drop, drop-of-length-le}
 use lib.Dec.{eqb}
 use Rattle.reader.specs.Lists.{sameList}
 use Rattle.reader.specs.Bytes.{numberAt}
@@ -22,7 +22,7 @@ use Rattle.reader.specs.declared.Checked.the-variants as told
 use Rattle.reader.proofs.First.{none-or-some}
 use Rattle.reader.proofs.Accepting.{accepted-header, whole-length, part-accepted, part-refused, start-accepted, start-refused}
 use Rattle.bounds.specs.Selections.{boundOf, takenOf, totalsOf}
-use Rattle.bounds.specs.Curves.{curveValues, curveMarks, cutOf}
+use Rattle.bounds.specs.Curves.{curveValues, curveMarks, cutOf, firstRepeat, IsFirstRepeat}
 use Rattle.bounds.specs.Calls.{reportBound, causesWithRoom, pathCauses, inputCauses, selectionCauses, curveCauses, cutCauses, BoundAnswers, TakenWrites, TotalsWrites, CurveAnswers, CurveValuesWrites, CurveMarksWrites, CurveDeclines, CutAnswers}
 use Rattle.bounds.specs.declared.Bounded.{Bounded}
 use Rattle.bounds.specs.declared.Bounded.the-variants as bounded
@@ -30,15 +30,16 @@ use Rattle.bounds.specs.declared.Curved.{Curved}
 use Rattle.bounds.specs.declared.Curved.the-variants as curved
 use Rattle.bounds.specs.declared.CutFound.{CutFound}
 use Rattle.bounds.specs.declared.CutFound.the-variants as cutFound
+use Rattle.bounds.proofs.Calls.FirstRepeat.{first-repeat, place-with-13}
 use Rattle.reduction.specs.Reduction.{reducedFile}
 use Rattle.reduction.specs.Calls.{reportReduced, reduceCauses, reducedCounts, reportCompared, compareCauses, comparison, ReduceAnswers, ReduceWrites, SameAnswers}
 use Rattle.reduction.specs.declared.ReducedFile.{ReducedFile}
 use Rattle.reduction.specs.declared.ReducedFile.the-variants as made
 use Rattle.reduction.specs.declared.Compared.{Compared}
 use Rattle.reduction.specs.declared.Compared.the-variants as compared
-use Rattle.phf.specs.Fields.{valueAt, valueWith, checkedFields, partFields, boundedFields, curvedFields, cuttingFields, reducedFields, comparedFields, CurveAnswer, CutAnswer}
+use Rattle.phf.specs.Fields.{valueAt, valueWith, checkedFields, partFields, boundedFields, curvedFields, cuttingFields, reducedFields, comparedFields}
 use Rattle.phf.specs.Calls.{PhfCheckAnswers, PhfRegionsAnswers, PhfBoundAnswers, PhfCurveAnswers, PhfCutAnswers, PhfReduceAnswers, PhfSameAnswers}
-use Rattle.phf.specs.Obeys.{numbers, NoZero, NoneHolds, FirstHolds, Obeys, ObeysOnPath}
+use Rattle.phf.specs.Obeys.{numbers, NoZero, NoneHolds, FirstHolds, Obeys}
 use Rattle.phf.specs.declared.PhfChecked.{PhfChecked}
 use Rattle.phf.specs.declared.PhfPart.{PhfPart}
 use Rattle.phf.specs.declared.PhfBounded.{PhfBounded}
@@ -46,9 +47,9 @@ use Rattle.phf.specs.declared.PhfCurved.{PhfCurved}
 use Rattle.phf.specs.declared.PhfCutting.{PhfCutting}
 use Rattle.phf.specs.declared.PhfReduced.{PhfReduced}
 use Rattle.phf.specs.declared.PhfCompared.{PhfCompared}
-use Rattle.phf.proofs.FieldLaws.{part-fields, no-part-fields}
-use Rattle.phf.proofs.Obeying.{first-is, numbered-if, none-is, Lent, nothing-lent, lent-too, lent-one, made-obeys, remade-obeys, value-none, value-some, values-done, obeys-on-path}
-use Rattle.phf.proofs.LibraryAnswers.{checkedOf, boundedOf, reducedOf, comparedOf, checked-remade, bounded-remade, reduced-remade, compared-remade, yes-or-no, curve-refuses, curve-does, cut-refuses, cut-does}
+use Rattle.phf.proofs.FieldLaws.{part-fields, no-part-fields, curve-refusal-fields, cut-refusal-fields}
+use Rattle.phf.proofs.Obeying.{first-is, numbered-if, none-is, Lent, nothing-lent, lent-too, lent-one, made-obeys, remade-obeys, path-obeys}
+use Rattle.phf.proofs.LibraryAnswers.{checkedOf, boundedOf, reducedOf, comparedOf, checked-remade, bounded-remade, reduced-remade, compared-remade, yes-or-no, curvedOf, cutFoundOf, curvedBy, cutFoundBy, curve-told, cut-told, curve-refusal, cut-refusal}
 
 pub record DemandOne : Type 0 where
   -- The first cause of a list has the number n exactly when a cause with this number holds and none before it. In a list that has no
@@ -74,12 +75,12 @@ pub record DemandOne : Type 0 where
       r (λ n. record { number = n; bound = 0 }) (record { number = 0; bound = boundOf (familyOf file) selection })
       (new ∷ []) (taken ∷ []) (atStart (takenOf (familyOf file) selection) taken ∷ [])
   pub phf-curve : (file path values marks newValues newMarks : List ℕ) (r : PhfCurved) → PhfCurveAnswers file path values marks r → CurveValuesWrites file path values marks newValues → CurveMarksWrites file path values marks newMarks
-      → ObeysOnPath (curveCauses file path values marks) path
-      r (λ n place. record { number = n; place = place }) (record { number = 0; place = 0 })
+      → Obeys (curveCauses file path values marks)
+      r (λ n. record { number = n; place = cond (eqb n 13) (firstRepeat path) 0 }) (record { number = 0; place = 0 })
       (newValues ∷ newMarks ∷ []) (values ∷ marks ∷ []) (atStart (curveValues (familyOf file) path) values ∷ atStart (curveMarks (familyOf file) path) marks ∷ [])
   pub phf-cut : (file path : List ℕ) (a b : ℕ) (r : PhfCutting) → PhfCutAnswers file path a b r
-      → ObeysOnPath (cutCauses file path a b) path
-      r (λ n place. record { number = n; place = place; cut = 0 }) (record { number = 0; place = 0; cut = cutOf (familyOf file) path a b })
+      → Obeys (cutCauses file path a b)
+      r (λ n. record { number = n; place = cond (eqb n 13) (firstRepeat path) 0; cut = 0 }) (record { number = 0; place = 0; cut = cutOf (familyOf file) path a b })
       [] [] []
   pub phf-reduce : (file out new : List ℕ) (r : PhfReduced) → PhfReduceAnswers file out r → ReduceWrites file out new
       → Obeys (reduceCauses file out)
@@ -105,12 +106,12 @@ pub record DemandOne : Type 0 where
       r bounded.Refused (bounded.Bound (boundOf (familyOf file) selection))
       (new ∷ []) (out ∷ []) (atStart (totalsOf (familyOf file) selection) out ∷ [])
   pub curve : (file path values marks newValues newMarks : List ℕ) (r : Curved) → CurveAnswers file path values marks r → CurveDeclines file path values marks r → CurveValuesWrites file path values marks newValues → CurveMarksWrites file path values marks newMarks
-      → ObeysOnPath (curveCauses file path values marks) path
-      r (λ n place. cond (eqb n 13) (curved.Repeated place) (curved.Refused n)) curved.Written
+      → Obeys (curveCauses file path values marks)
+      r (λ n. cond (eqb n 13) (curved.Repeated (firstRepeat path)) (curved.Refused n)) curved.Written
       (newValues ∷ newMarks ∷ []) (values ∷ marks ∷ []) (atStart (curveValues (familyOf file) path) values ∷ atStart (curveMarks (familyOf file) path) marks ∷ [])
   pub cut : (file path : List ℕ) (a b : ℕ) (r : CutFound) → CutAnswers file path a b r
-      → ObeysOnPath (cutCauses file path a b) path
-      r (λ n place. cond (eqb n 13) (cutFound.Repeated place) (cutFound.Refused n)) (cutFound.At (cutOf (familyOf file) path a b))
+      → Obeys (cutCauses file path a b)
+      r (λ n. cond (eqb n 13) (cutFound.Repeated (firstRepeat path)) (cutFound.Refused n)) (cutFound.At (cutOf (familyOf file) path a b))
       [] [] []
   pub reduce : (file out new : List ℕ) (r : ReducedFile) → ReduceAnswers file out r → ReduceWrites file out new
       → Obeys (reduceCauses file out)
@@ -120,6 +121,10 @@ pub record DemandOne : Type 0 where
       → Obeys (compareCauses first second)
       r compared.Refused (cond (sameList (reducedFile first) (reducedFile second)) compared.Same compared.Different)
       [] [] []
+  -- The place that comes with 13 is the first one of the path whose peptide stands earlier too; no other number is.
+  pub curve-place : (file path values marks : List ℕ) → firstCause (curveCauses file path values marks) ≡ 13 → IsFirstRepeat path (firstRepeat path)
+  pub cut-place : (file path : List ℕ) (a b : ℕ) → firstCause (cutCauses file path a b) ≡ 13 → IsFirstRepeat path (firstRepeat path)
+  pub only-place : (path : List ℕ) (p : ℕ) → IsFirstRepeat path p → p ≡ firstRepeat path
   -- The part that holds the regions: of an accepted file the 6K bytes from byte 16 + 2N on; of a refused one nothing, at the file's start.
   pub regions-accepted : (place fileAt : ℕ × ℕ) (part file : List ℕ) → RegionsGiven place part fileAt file → Accepted file
       → (part ≡ drop (regionsOffset (leaves (familyOf file))) file) × (length part ≡ 6 * regionCount (familyOf file))
@@ -133,37 +138,16 @@ pub record DemandOne : Type 0 where
   pub regions-empty : (place fileAt : ℕ × ℕ) (part file : List ℕ) → RegionsGiven place part fileAt file → (part ≡ []) ↔ ((Accepted file → ⊥) ⊎ (regionCount (familyOf file) ≡ 0))
   pub phf-regions-empty : (file : List ℕ) (r : PhfPart) → PhfRegionsAnswers file r → (r .length ≡ 0) ↔ ((Accepted file → ⊥) ⊎ (regionCount (familyOf file) ≡ 0))
 
--- The calls with a path.
+-- The place with 13.
+
+only-first : (path : List ℕ) (p : ℕ) → IsFirstRepeat path p → p ≡ firstRepeat path
+only-first path p h = sym (first-repeat path p (λ z. omega (arith, h .from-two)) .1 h)
+
+-- The lent lists of `curve`.
 
 module _ (file path values marks newValues newMarks : List ℕ) (v : CurveValuesWrites file path values marks newValues) (w : CurveMarksWrites file path values marks newMarks) where
   curve-lent : Lent (curveCauses file path values marks) (newValues ∷ newMarks ∷ []) (values ∷ marks ∷ []) (atStart (curveValues (familyOf file) path) values ∷ atStart (curveMarks (familyOf file) path) marks ∷ [])
   curve-lent = lent-too _ _ values newValues (newMarks ∷ []) (marks ∷ []) _ v (lent-one _ _ marks newMarks w)
-
-phf-curve-says : (cs : List Cause) (path : List ℕ) (r : PhfCurved) (after before work : List (List ℕ)) → CurveAnswer cs path r → Lent cs after before work
-    → ObeysOnPath cs path r (λ n place. record { number = n; place = place }) (record { number = 0; place = 0 }) after before work
-unfolding curvedFields
-phf-curve-says cs path r after before work h lent =
-    let number = h .answers .number in
-    let fields : ℕ → ℕ → PhfCurved = λ n place. record { number = n; place = place } in
-    obeys-on-path cs path [] (h .told) (h .answers) r fields _ after before work
-    (λ some. h .fields ∙ ap (λ n. fields n (valueWith 13 (h .told))) number)
-    (λ none. h .fields ∙ ap₂ fields (number ∙ none) (value-none cs path [] (h .told) (h .answers) 13 (λ e. omega arith)))
-    lent
-
-phf-cut-says : (cs : List Cause) (path : List ℕ) (cut : ℕ) (r : PhfCutting) → CutAnswer cs path cut r
-    → ObeysOnPath cs path r (λ n place. record { number = n; place = place; cut = 0 }) (record { number = 0; place = 0; cut = cut }) [] [] []
-unfolding cuttingFields valueAt
-phf-cut-says cs path cut r h =
-    let number = h .answers .number in
-    let found = h .told in
-    let fields : ℕ → ℕ → ℕ → PhfCutting = λ n place t. record { number = n; place = place; cut = t } in
-    obeys-on-path cs path (cut ∷ []) found (h .answers) r (λ n place. fields n place 0) _ [] [] []
-    (λ some. h .fields ∙ ap₂ (λ n t. fields n (valueWith 13 found) t) number (value-none cs path (cut ∷ []) found (h .answers) 0 some))
-    (λ none.
-    let place = value-none cs path (cut ∷ []) found (h .answers) 13 (λ e. omega arith) in
-    let value : valueWith 0 found ≡ cut = value-some cs path (cut ∷ []) found (h .answers) 0 none ∙ ap (λ l. getD l 0 0) (values-done cs path (cut ∷ []) found (h .answers) none) in
-    h .fields ∙ ap₂ (fields (found .number)) place value ∙ ap (λ n. fields n 0 cut) (number ∙ none))
-    (nothing-lent cs)
 
 -- The part that holds the regions.
 
@@ -204,7 +188,7 @@ module _ (place fileAt : ℕ × ℕ) (part file : List ℕ) (h : RegionsGiven pl
   part-of-refused r = (h .bytes ∙ part-refused file r, h .part .block, omega (arith, h .part .place, start-refused file r))
 
 pub demand-one : DemandOne
-unfolding headerCauses familyCauses fileCauses parentsCauses causesWithRoom pathCauses inputCauses curveCauses cutCauses reduceCauses compareCauses checked checkedFields boundedFields reducedFields comparedFields valueAt reducedCounts comparison checkedOf boundedOf reducedOf comparedOf
+unfolding headerCauses familyCauses fileCauses parentsCauses causesWithRoom pathCauses inputCauses curveCauses cutCauses reduceCauses compareCauses checked checkedFields boundedFields curvedFields cuttingFields reducedFields comparedFields valueAt valueWith reducedCounts comparison checkedOf boundedOf reducedOf comparedOf curvedOf cutFoundOf
 demand-one =
     record {
       first-cause = first-is;
@@ -218,18 +202,21 @@ demand-one =
       same-tries = λ first second. refl;
       phf-check = λ file r h. made-obeys (fileCauses file) _ checkedFields r [] [] [] h (nothing-lent (fileCauses file));
       phf-bound = λ file selection taken new r h w. made-obeys (selectionCauses file selection taken) _ boundedFields r (new ∷ []) _ _ h (lent-one _ _ _ _ w);
-      phf-curve = λ file path values marks newValues newMarks r h v w. phf-curve-says _ path r _ _ _ h (curve-lent file path values marks newValues newMarks v w);
-      phf-cut = λ file path a b r h. phf-cut-says _ path _ r h;
+      phf-curve = λ file path values marks newValues newMarks r h v w. path-obeys _ path [] curvedFields _ (λ n some. curve-refusal-fields path n) r _ _ _ h (curve-lent file path values marks newValues newMarks v w);
+      phf-cut = λ file path a b r h. path-obeys _ path _ cuttingFields _ (cut-refusal-fields path) r [] [] [] h (nothing-lent _);
       phf-reduce = λ file out new r h w. made-obeys (reduceCauses file out) _ reducedFields r (new ∷ []) _ _ h (lent-one _ _ _ _ w);
       phf-same = λ first second r h. made-obeys (compareCauses first second) _ comparedFields r [] [] [] h (nothing-lent _);
       check = λ file r h. remade-obeys (fileCauses file) _ report checkedOf checked-remade r [] [] [] h (nothing-lent (fileCauses file));
       parents = λ file out new r h w. remade-obeys (parentsCauses file out) _ report checkedOf checked-remade r (new ∷ []) _ _ h (lent-one _ _ _ _ w);
       bound = λ file selection taken new r h w. remade-obeys (selectionCauses file selection taken) _ reportBound boundedOf bounded-remade r (new ∷ []) _ _ h (lent-one _ _ _ _ w);
       inside-totals = λ file selection out new r h w. remade-obeys (selectionCauses file selection out) _ reportBound boundedOf bounded-remade r (new ∷ []) _ _ h (lent-one _ _ _ _ w);
-      curve = λ file path values marks newValues newMarks r h d v w. obeys-on-path _ path [] _ h r _ _ _ _ _ (curve-refuses _ path r h) (curve-does _ path r h d) (curve-lent file path values marks newValues newMarks v w);
-      cut = λ file path a b r h. obeys-on-path _ path _ _ h r _ _ [] [] [] (cut-refuses _ path _ r h) (cut-does _ path _ r h) (nothing-lent _);
+      curve = λ file path values marks newValues newMarks r h d v w. path-obeys _ path [] curvedBy _ (curve-refusal path) r _ _ _ (curve-told _ path r h d) (curve-lent file path values marks newValues newMarks v w);
+      cut = λ file path a b r h. path-obeys _ path _ cutFoundBy _ (cut-refusal path) r [] [] [] (cut-told _ path _ r h) (nothing-lent _);
       reduce = λ file out new r h w. remade-obeys (reduceCauses file out) _ reportReduced reducedOf reduced-remade r (new ∷ []) _ _ h (lent-one _ _ _ _ w);
       same = λ first second r h. rw (← yes-or-no (sameList (reducedFile first) (reducedFile second))) (remade-obeys (compareCauses first second) _ reportCompared comparedOf compared-remade r [] [] [] h (nothing-lent _));
+      curve-place = λ file path values marks. place-with-13 file path _ (omega arith);
+      cut-place = λ file path a b. place-with-13 file path _ (omega arith);
+      only-place = only-first;
       regions-accepted = part-of-accepted;
       regions-refused = part-of-refused;
       phf-regions = λ file r h. record { declined = λ some. (h ∙ no-part-fields file some, refl); done = λ none. (h ∙ part-fields file none, refl) };

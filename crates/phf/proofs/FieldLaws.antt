@@ -3,6 +3,7 @@ use Prim.Native.Nat.{ℕ, _*_}
 use native.Mathlib.Omega.{arith}
 use mathlib.Core.Bool.{Bool, true, false, cond}
 use mathlib.Core.List.{List}
+use mathlib.Core.Logic.{⊎-elim}
 use mathlib.Core.Path.{_≡_, refl, sym, _∙_}
 use lib.ListN.{length, take, drop, length-drop}
 use lib.Seq.{take-all}
@@ -11,6 +12,7 @@ use borrow.Author.Tests.{ne-eqb}
 use Rattle.reader.specs.Family.{familyOf, leaves, regionCount, regionsOffset}
 use Rattle.reader.specs.Causes.{firstCause, fileCauses, Accepted}
 use Rattle.reader.specs.Calls.{report, regionPart}
+use Rattle.reader.proofs.Bools.{test}
 use Rattle.reader.proofs.Accepting.{accepted-header, whole-length, part-accepted}
 use Rattle.reader.specs.declared.Checked.{Checked}
 use Rattle.reader.specs.declared.Checked.the-variants as told
@@ -25,7 +27,8 @@ use Rattle.reduction.specs.declared.ReducedFile.the-variants as made
 use Rattle.reduction.specs.declared.Compared.{Compared}
 use Rattle.reduction.specs.declared.Compared.the-variants as compared
 use Rattle.reduction.specs.Calls.{reportReduced, reportCompared}
-use Rattle.bounds.specs.Calls.{reportBound, reportCurve, reportCut}
+use Rattle.bounds.specs.Curves.{firstRepeat}
+use Rattle.bounds.specs.Calls.{reportBound, reportCurve, reportCut, pathRefusal}
 use Rattle.phf.specs.Fields.{valueAt, valueWith, checkedFields, partFields, boundedFields, curvedFields, cuttingFields, reducedFields, comparedFields}
 
 either-zero : (b : Bool) → _≡_ {A = ℕ} (cond b 0 0) 0
@@ -93,6 +96,17 @@ cut-refused r number e = rw (e, either-zero (eqb number 13), either-zero (eqb nu
 pub cut-repeated : (r : CutFound) (place : ℕ) → r ≡ cutFound.Repeated place → record { number = 13; place = place; cut = 0 } ≡ cuttingFields (reportCut r)
 unfolding cuttingFields valueWith valueAt reportCut
 cut-repeated r place e = rw e
+
+-- the fields of a refusal on a path, by its number
+module _ (path : List ℕ) (n : ℕ) where
+  pub curve-refusal-fields : curvedFields (pathRefusal path n) ≡ record { number = n; place = cond (eqb n 13) (firstRepeat path) 0 }
+  unfolding curvedFields valueWith valueAt pathRefusal
+  curve-refusal-fields = ⊎-elim (λ (t : eqb n 13 ≡ true). rw t) (λ (f : eqb n 13 ≡ false). rw f) (test (eqb n 13))
+
+  pub cut-refusal-fields : (n ≡ 0 → ⊥) → cuttingFields (pathRefusal path n) ≡ record { number = n; place = cond (eqb n 13) (firstRepeat path) 0; cut = 0 }
+  unfolding cuttingFields valueWith valueAt pathRefusal
+  cut-refusal-fields some =
+      ⊎-elim (λ (t : eqb n 13 ≡ true). rw (t, ne-eqb n 0 some)) (λ (f : eqb n 13 ≡ false). rw (f, ne-eqb n 0 some)) (test (eqb n 13))
 
 -- The reduction and the comparison.
 

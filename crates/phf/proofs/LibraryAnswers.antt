@@ -1,18 +1,19 @@
 -- What the calls of the libraries answer, told from the report of the answer.
 use Prim.Native.Nat.{ℕ}
 use mathlib.Core.Bool.{Bool, true, false, not, cond}
-use mathlib.Core.List.{List, [], _∷_, nil≢cons}
-use mathlib.Core.Path.{_≡_, refl, sym, ap}
-use native.Mathlib.Omega.{arith}
+use mathlib.Core.List.{List, [], _∷_}
+use mathlib.Core.Logic.{⊎-elim}
+use mathlib.Core.Path.{_≡_, refl, sym, ap, _∙_}
 use lib.ListN.{getD}
 use lib.Dec.{eqb}
-use borrow.Author.Tests.{eq-eqb, ne-eqb}
+use borrow.Author.Tests.{ne-eqb, not-true}
 use Rattle.reader.specs.Causes.{Cause, firstCause}
-use Rattle.reader.specs.Calls.{report}
+use Rattle.reader.specs.Calls.{Report, report}
 use Rattle.reader.specs.declared.Checked.{Checked}
 use Rattle.reader.specs.declared.Checked.the-variants as told
-use Rattle.reader.proofs.Bools.{clash, not-fails}
-use Rattle.bounds.specs.Calls.{reportBound, reportCurve, declinedCurve, reportCut, Answers}
+use Rattle.reader.proofs.Bools.{test}
+use Rattle.bounds.specs.Curves.{firstRepeat}
+use Rattle.bounds.specs.Calls.{reportBound, reportCurve, declinedCurve, reportCut, pathRefusal, pathAnswer}
 use Rattle.bounds.specs.declared.Bounded.{Bounded}
 use Rattle.bounds.specs.declared.Bounded.the-variants as bounded
 use Rattle.bounds.specs.declared.Curved.{Curved}
@@ -24,8 +25,7 @@ use Rattle.reduction.specs.declared.ReducedFile.{ReducedFile}
 use Rattle.reduction.specs.declared.ReducedFile.the-variants as made
 use Rattle.reduction.specs.declared.Compared.{Compared}
 use Rattle.reduction.specs.declared.Compared.the-variants as compared
-use Rattle.phf.specs.Fields.{valueAt, valueWith}
-use Rattle.phf.proofs.Obeying.{values-done}
+use Rattle.bounds.proofs.Calls.Answering.{path-number}
 
 -- An answer without a place is made again of its number and its values.
 
@@ -71,34 +71,49 @@ unfolding comparedOf
 yes-or-no true = refl
 yes-or-no false = refl
 
--- An answer that may have a place.
+-- An answer that may have a place is made again likewise; with no values, the curve's number tells a refusal from a written curve.
 
-pub curve-refuses : (cs : List Cause) (path : List ℕ) (r : Curved) → Answers cs path [] (reportCurve r) → (firstCause cs ≡ 0 → ⊥)
-    → r ≡ cond (eqb (firstCause cs) 13) (curved.Repeated (valueWith 13 (reportCurve r))) (curved.Refused (firstCause cs))
-unfolding reportCurve valueWith valueAt
-curve-refuses cs path curved.Written h some = absurd (some (sym (h .number)))
-curve-refuses cs path (curved.Refused n) h some =
-    let other : firstCause cs ≡ 13 → ⊥ = λ e. nil≢cons (h .place e .3) in
-    rw (ne-eqb (firstCause cs) 13 other) (ap curved.Refused (h .number))
-curve-refuses cs path (curved.Repeated p) h some = rw (eq-eqb (firstCause cs) 13 (sym (h .number))) refl
+unfoldable pub curvedOf : ℕ → List ℕ → Curved
+curvedOf n [] = cond (eqb n 0) curved.Written (curved.Refused n)
+curvedOf n (p ∷ vs) = curved.Repeated p
 
-pub curve-does : (cs : List Cause) (path : List ℕ) (r : Curved) → Answers cs path [] (reportCurve r) → declinedCurve r ≡ not (eqb (firstCause cs) 0) → firstCause cs ≡ 0 → r ≡ curved.Written
-unfolding reportCurve declinedCurve
-curve-does cs path curved.Written h d none = refl
-curve-does cs path (curved.Refused n) h d none = absurd (clash (sym d) (not-fails (eqb (firstCause cs) 0) (eq-eqb (firstCause cs) 0 none)))
-curve-does cs path (curved.Repeated p) h d none = let e = h .number in absurd (omega arith)
+unfoldable pub cutFoundOf : ℕ → List ℕ → CutFound
+cutFoundOf n [] = cutFound.Refused n
+cutFoundOf n (v ∷ vs) = cond (eqb n 0) (cutFound.At v) (cutFound.Repeated v)
 
-pub cut-refuses : (cs : List Cause) (path result : List ℕ) (r : CutFound) → Answers cs path result (reportCut r) → (firstCause cs ≡ 0 → ⊥)
-    → r ≡ cond (eqb (firstCause cs) 13) (cutFound.Repeated (valueWith 13 (reportCut r))) (cutFound.Refused (firstCause cs))
-unfolding reportCut valueWith valueAt
-cut-refuses cs path result (cutFound.At t) h some = absurd (some (sym (h .number)))
-cut-refuses cs path result (cutFound.Refused n) h some =
-    let other : firstCause cs ≡ 13 → ⊥ = λ e. nil≢cons (h .place e .3) in
-    rw (ne-eqb (firstCause cs) 13 other) (ap cutFound.Refused (h .number))
-cut-refuses cs path result (cutFound.Repeated p) h some = rw (eq-eqb (firstCause cs) 13 (sym (h .number))) refl
+curved-remade : (r : Curved) → declinedCurve r ≡ not (eqb (reportCurve r .number) 0) → r ≡ curvedOf (reportCurve r .number) (reportCurve r .values)
+unfolding reportCurve declinedCurve curvedOf
+curved-remade curved.Written d = refl
+curved-remade (curved.Refused n) d = rw (not-true (eqb n 0) (sym d))
+curved-remade (curved.Repeated p) d = refl
 
-pub cut-does : (cs : List Cause) (path : List ℕ) (cut : ℕ) (r : CutFound) → Answers cs path (cut ∷ []) (reportCut r) → firstCause cs ≡ 0 → r ≡ cutFound.At cut
-unfolding reportCut
-cut-does cs path cut (cutFound.At t) h none = ap (λ l. cutFound.At (getD l 0 0)) (values-done cs path (cut ∷ []) _ h none)
-cut-does cs path cut (cutFound.Refused n) h none = absurd (nil≢cons (values-done cs path (cut ∷ []) _ h none))
-cut-does cs path cut (cutFound.Repeated p) h none = let e = h .number in absurd (omega arith)
+cut-remade : (r : CutFound) → r ≡ cutFoundOf (reportCut r .number) (reportCut r .values)
+unfolding reportCut cutFoundOf
+cut-remade (cutFound.At t) = refl
+cut-remade (cutFound.Refused n) = refl
+cut-remade (cutFound.Repeated p) = refl
+
+-- the answer that a report tells
+abbrev pub curvedBy : Report → Curved
+curvedBy r = curvedOf (r .number) (r .values)
+
+abbrev pub cutFoundBy : Report → CutFound
+cutFoundBy r = cutFoundOf (r .number) (r .values)
+
+module _ (cs : List Cause) (path : List ℕ) where
+  pub curve-told : (r : Curved) → reportCurve r ≡ pathAnswer cs path [] → declinedCurve r ≡ not (eqb (firstCause cs) 0) → r ≡ curvedBy (pathAnswer cs path [])
+  curve-told r h d =
+      curved-remade r (d ∙ ap (λ (n : ℕ). not (eqb n 0)) (sym (ap (λ (t : Report). t .number) h ∙ path-number cs path []))) ∙ ap curvedBy h
+
+  pub cut-told : (result : List ℕ) (r : CutFound) → reportCut r ≡ pathAnswer cs path result → r ≡ cutFoundBy (pathAnswer cs path result)
+  cut-told result r h = cut-remade r ∙ ap cutFoundBy h
+
+-- a refusal on a path, by its number
+module _ (path : List ℕ) (n : ℕ) where
+  pub curve-refusal : (n ≡ 0 → ⊥) → curvedBy (pathRefusal path n) ≡ cond (eqb n 13) (curved.Repeated (firstRepeat path)) (curved.Refused n)
+  unfolding pathRefusal curvedOf
+  curve-refusal some = ⊎-elim (λ (t : eqb n 13 ≡ true). rw t) (λ (f : eqb n 13 ≡ false). rw (f, ne-eqb n 0 some)) (test (eqb n 13))
+
+  pub cut-refusal : (n ≡ 0 → ⊥) → cutFoundBy (pathRefusal path n) ≡ cond (eqb n 13) (cutFound.Repeated (firstRepeat path)) (cutFound.Refused n)
+  unfolding pathRefusal cutFoundOf
+  cut-refusal some = ⊎-elim (λ (t : eqb n 13 ≡ true). rw (t, ne-eqb n 0 some)) (λ (f : eqb n 13 ≡ false). rw f) (test (eqb n 13))

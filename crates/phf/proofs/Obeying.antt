@@ -1,20 +1,15 @@
 -- How a promise in the words of `answer` and `written` becomes demand 1.
-use Prim.Native.Nat.{ℕ, _≤_}
-use mathlib.Core.Bool.{true}
+use Prim.Native.Nat.{ℕ}
 use mathlib.Core.List.{List, [], _∷_, _++_}
 use mathlib.Core.Path.{_≡_, refl, sym, ap, ap₂, _∙_}
 use mathlib.Core.Logic.{⊎-elim, _↔_}
-use native.Mathlib.Omega.{arith}
-use lib.ListN.{length, getD}
-use borrow.Author.Tests.{eq-eqb, ne-eqb}
 use Rattle.reader.specs.Causes.{Cause, firstCause}
 use Rattle.reader.specs.Calls.{Report, answer, written, atStart}
 use Rattle.reader.proofs.Bools.{test}
 use Rattle.reader.proofs.First.{Numbered, first-holds, first-fails, head-clear, answers, declines, writes, leaves-unchanged}
-use Rattle.bounds.specs.Curves.{repeated}
-use Rattle.bounds.specs.Calls.{Answers}
-use Rattle.phf.specs.Fields.{valueAt, valueWith}
-use Rattle.phf.specs.Obeys.{numbers, NoZero, NoneHolds, FirstHolds, Obeys, ObeysOnPath}
+use Rattle.bounds.specs.Calls.{pathRefusal, pathAnswer}
+use Rattle.bounds.proofs.Calls.Answering.{path-answers, path-refuses}
+use Rattle.phf.specs.Obeys.{numbers, NoZero, NoneHolds, FirstHolds, Obeys}
 
 -- The first cause that holds.
 
@@ -100,33 +95,12 @@ pub remade-obeys : {A : Type 0} (cs : List Cause) (result : List ℕ) (report : 
 remade-obeys cs result report make again r after before work h lent =
     made-obeys cs result (λ told. make (told .number) (told .values)) r after before work (again r ∙ ap (λ told. make (told .number) (told .values)) h) lent
 
--- The place and the value of an answer on a path.
-module _ (cs : List Cause) (path result : List ℕ) (told : Report) (h : Answers cs path result told) where
-  pub value-none : (n : ℕ) → (firstCause cs ≡ n → ⊥) → valueWith n told ≡ 0
-  unfolding valueWith
-  value-none n other = rw (ne-eqb (told .number) n (λ e. other (sym (h .number) ∙ e)))
-
-  pub value-some : (n : ℕ) → firstCause cs ≡ n → valueWith n told ≡ valueAt told 0
-  unfolding valueWith
-  value-some n e = rw (eq-eqb (told .number) n (h .number ∙ e))
-
-  pub values-done : firstCause cs ≡ 0 → told .values ≡ result
-  values-done none = h .values (λ e. omega arith) ∙ ap (λ (r : Report). r .values) (answers cs none result)
-
-  pub place-repeats : firstCause cs ≡ 13 → (1 ≤ valueWith 13 told) × (valueWith 13 told ≤ length path) × (repeated path (valueWith 13 told) ≡ true)
-  unfolding valueAt
-  place-repeats e =
-      let p = h .place e in
-      let here : valueWith 13 told ≡ p .0 = value-some 13 e ∙ ap (λ (l : List ℕ). getD l 0 0) (p .3) in
-      rw here (p .1, p .2, p .4)
-
-  pub obeys-on-path : {A : Type 0} (answer : A) (refusal : ℕ → ℕ → A) (work : A) (after before new : List (List ℕ))
-      → ((firstCause cs ≡ 0 → ⊥) → answer ≡ refusal (firstCause cs) (valueWith 13 told)) → (firstCause cs ≡ 0 → answer ≡ work) → Lent cs after before new
-      → ObeysOnPath cs path answer refusal work after before new
-  obeys-on-path answer refusal work after before new declined done lent =
-      record {
-        place = valueWith 13 told;
-        obeys = record { declined = λ some. (declined some, lent .0 some); done = λ none. (done none, lent .1 none) };
-        repeats = place-repeats;
-        no-place = value-none 13;
-      }
+-- an answer that is made of what a call with a path reports
+pub path-obeys : {A : Type 0} (cs : List Cause) (path result : List ℕ) (make : Report → A) (refusal : ℕ → A) → ((n : ℕ) → (n ≡ 0 → ⊥) → make (pathRefusal path n) ≡ refusal n)
+    → (r : A) (after before work : List (List ℕ)) → r ≡ make (pathAnswer cs path result) → Lent cs after before work
+    → Obeys cs r refusal (make (record { number = 0; values = result })) after before work
+path-obeys cs path result make refusal refuses r after before work h lent =
+    record {
+      declined = λ some. (h ∙ ap make (path-refuses cs path result some) ∙ refuses (firstCause cs) some, lent .0 some);
+      done = λ none. (h ∙ ap make (path-answers cs path result none), lent .1 none);
+    }

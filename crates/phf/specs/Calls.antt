@@ -9,9 +9,9 @@ use Rattle.reader.specs.Family.{familyOf}
 use Rattle.reader.specs.Calls.{answer, checked, regionPart}
 use Rattle.bounds.specs.Selections.{boundOf}
 use Rattle.bounds.specs.Curves.{cutOf}
-use Rattle.bounds.specs.Calls.{selectionCauses, curveCauses, cutCauses}
+use Rattle.bounds.specs.Calls.{selectionCauses, curveCauses, cutCauses, pathAnswer}
 use Rattle.reduction.specs.Calls.{reduceCauses, reducedCounts, compareCauses, comparison}
-use Rattle.phf.specs.Fields.{checkedFields, partFields, boundedFields, CurveAnswer, CutAnswer, reducedFields, comparedFields}
+use Rattle.phf.specs.Fields.{checkedFields, partFields, boundedFields, curvedFields, cuttingFields, reducedFields, comparedFields}
 use Rattle.phf.specs.declared.PhfChecked.{PhfChecked}
 use Rattle.phf.specs.declared.PhfPart.{PhfPart}
 use Rattle.phf.specs.declared.PhfBounded.{PhfBounded}
@@ -36,10 +36,10 @@ abbrev pub PhfBoundAnswers : List ℕ → List ℕ → List ℕ → PhfBounded �
 PhfBoundAnswers file selection taken r = r ≡ boundedFields (answer (selectionCauses file selection taken) (boundOf (familyOf file) selection ∷ []))
 
 abbrev pub PhfCurveAnswers : List ℕ → List ℕ → List ℕ → List ℕ → PhfCurved → Type 0
-PhfCurveAnswers file path values marks r = CurveAnswer (curveCauses file path values marks) path r
+PhfCurveAnswers file path values marks r = r ≡ curvedFields (pathAnswer (curveCauses file path values marks) path [])
 
 abbrev pub PhfCutAnswers : List ℕ → List ℕ → ℕ → ℕ → PhfCutting → Type 0
-PhfCutAnswers file path a b r = CutAnswer (cutCauses file path a b) path (cutOf (familyOf file) path a b) r
+PhfCutAnswers file path a b r = r ≡ cuttingFields (pathAnswer (cutCauses file path a b) path (cutOf (familyOf file) path a b ∷ []))
 
 abbrev pub PhfReduceAnswers : List ℕ → List ℕ → PhfReduced → Type 0
 PhfReduceAnswers file out r = r ≡ reducedFields (answer (reduceCauses file out) (reducedCounts file))

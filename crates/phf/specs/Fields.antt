@@ -2,14 +2,12 @@
 -- no value is 0; a place comes with number 13 only.
 use Prim.Native.Nat.{ℕ, _*_}
 use mathlib.Core.Bool.{cond}
-use mathlib.Core.List.{List, [], _∷_}
-use mathlib.Core.Path.{_≡_}
+use mathlib.Core.List.{List}
 use lib.ListN.{getD}
 use lib.Dec.{eqb}
 use Rattle.reader.specs.Family.{familyOf, leaves, regionCount, regionsOffset}
-use Rattle.reader.specs.Causes.{Cause, firstCause, fileCauses}
+use Rattle.reader.specs.Causes.{firstCause, fileCauses}
 use Rattle.reader.specs.Calls.{Report}
-use Rattle.bounds.specs.Calls.{Answers}
 use Rattle.phf.specs.declared.PhfChecked.{PhfChecked}
 use Rattle.phf.specs.declared.PhfPart.{PhfPart}
 use Rattle.phf.specs.declared.PhfBounded.{PhfBounded}
@@ -50,16 +48,3 @@ curvedFields r = record { number = r .number; place = valueWith 13 r }
 
 unfoldable pub cuttingFields : Report → PhfCutting
 cuttingFields r = record { number = r .number; place = valueWith 13 r; cut = valueWith 0 r }
-
--- The answer of a call with a path is fixed by its causes and values but for the place that comes with number 13 (`Answers`):
--- the fields are those of one such answer.
-
-pub record CurveAnswer (cs : List Cause) (path : List ℕ) (r : PhfCurved) : Type 0 where
-  pub told : Report
-  pub answers : Answers cs path [] told
-  pub fields : r ≡ curvedFields told
-
-pub record CutAnswer (cs : List Cause) (path : List ℕ) (cut : ℕ) (r : PhfCutting) : Type 0 where
-  pub told : Report
-  pub answers : Answers cs path (cut ∷ []) told
-  pub fields : r ≡ cuttingFields told

@@ -4,9 +4,7 @@ use Prim.Native.Nat.{ℕ, _≤_}
 use mathlib.Core.Bool.{true, false}
 use mathlib.Core.List.{List, [], _∷_, _++_, map}
 use mathlib.Core.Path.{_≡_}
-use lib.ListN.{length}
 use Rattle.reader.specs.Causes.{Cause, firstCause}
-use Rattle.bounds.specs.Curves.{repeated}
 
 -- the numbers of the causes, in the order in which they are tried
 abbrev pub numbers : List Cause → List ℕ
@@ -36,11 +34,3 @@ pub record FirstHolds (cs : List Cause) (n : ℕ) : Type 0 where
 pub record Obeys {A : Type 0} (cs : List Cause) (answer : A) (refusal : ℕ → A) (work : A) (after before written : List (List ℕ)) : Type 0 where
   pub declined : (firstCause cs ≡ 0 → ⊥) → (answer ≡ refusal (firstCause cs)) × (after ≡ before)
   pub done : firstCause cs ≡ 0 → (answer ≡ work) × (after ≡ written)
-
--- The same of a call with a path, whose refusal has a place beside the number: 13 comes with one, from 1 to T, whose peptide stands
--- earlier too; with any other number it is 0.
-pub record ObeysOnPath {A : Type 0} (cs : List Cause) (path : List ℕ) (answer : A) (refusal : ℕ → ℕ → A) (work : A) (after before written : List (List ℕ)) : Type 0 where
-  pub place : ℕ
-  pub obeys : Obeys cs answer (λ n. refusal n place) work after before written
-  pub repeats : firstCause cs ≡ 13 → (1 ≤ place) × (place ≤ length path) × (repeated path place ≡ true)
-  pub no-place : (firstCause cs ≡ 13 → ⊥) → place ≡ 0

@@ -60,7 +60,8 @@ static void bound(void)
 static void curve_and_cut(void)
 {
     const uint16_t path[8] = {7, 3, 1, 4, 6, 2, 5, 8};
-    const uint16_t twice[3] = {7, 3, 7};
+    const uint16_t twice[6] = {7, 3, 1, 3, 7, 1};
+    const uint16_t twice_and_nine[4] = {7, 7, 7, 9};
     const uint16_t expected[10] = {0, 0, 1, 2, 2, 3, 4, 4, 4, 777};
     const uint8_t expected_marks[9] = {0, 1, 1, 0, 1, 1, 0, 0, 77};
     uint16_t values[10];
@@ -71,8 +72,12 @@ static void curve_and_cut(void)
     for (i = 0; i < 10; i++)
         values[i] = 777;
     memset(marks, 77, sizeof marks);
-    answer = phf_curve(eight, sizeof eight, twice, 3, values, 10, marks, 9);
-    HOLDS(answer.number == 13 && answer.place == 3 && values[0] == 777 && marks[0] == 77);
+    answer = phf_curve(eight, sizeof eight, twice, 6, values, 10, marks, 9);
+    HOLDS(answer.number == PHF_PEPTIDE_TWICE && answer.place == 4 && values[0] == 777 && marks[0] == 77);
+    answer = phf_curve(eight, sizeof eight, twice_and_nine, 3, values, 10, marks, 9);
+    HOLDS(answer.number == PHF_PEPTIDE_TWICE && answer.place == 2 && values[0] == 777 && marks[0] == 77);
+    answer = phf_curve(eight, sizeof eight, twice_and_nine, 4, values, 10, marks, 9);
+    HOLDS(answer.number == PHF_BAD_PATH_NUMBER && answer.place == 0 && values[0] == 777 && marks[0] == 77);
     answer = phf_curve(eight, sizeof eight, path, 8, values, 8, marks, 9);
     HOLDS(answer.number == 16 && answer.place == 0 && values[0] == 777 && marks[0] == 77);
     answer = phf_curve(eight, sizeof eight, NULL, 0, values, 1, NULL, 0);
@@ -87,8 +92,10 @@ static void curve_and_cut(void)
     HOLDS(cut.number == 0 && cut.place == 0 && cut.cut == 1);
     cut = phf_cut(eight, sizeof eight, path, 8, 1, 0);
     HOLDS(cut.number == 15 && cut.place == 0 && cut.cut == 0);
-    cut = phf_cut(eight, sizeof eight, twice, 3, 1, 2);
-    HOLDS(cut.number == 13 && cut.place == 3 && cut.cut == 0);
+    cut = phf_cut(eight, sizeof eight, twice, 6, 1, 2);
+    HOLDS(cut.number == PHF_PEPTIDE_TWICE && cut.place == 4 && cut.cut == 0);
+    cut = phf_cut(eight, sizeof eight, twice_and_nine, 4, 1, 2);
+    HOLDS(cut.number == PHF_BAD_PATH_NUMBER && cut.place == 0 && cut.cut == 0);
 }
 
 static void reduce_and_same(void)

@@ -1,9 +1,9 @@
--- Causes 11 to 13: what they say of a path, how the first repeat is found, and the first cause of a family and a path.
+-- Causes 11 to 13: what they say of a path, how the first repeat is found, and the first cause of a family and a path, with its refusal.
 use Prim.Native.Nat.{ℕ, zero, suc, _+_, _-_, _<_, _≤_}
 use mathlib.Core.Bool.{Bool, true, false, cond, _||_}
 use mathlib.Core.List.{List, [], _∷_}
 use mathlib.Core.Logic.{_⊎_, inl, inr, ⊎-elim}
-use mathlib.Core.Path.{_≡_, refl, sym, ap, subst, _∙_}
+use mathlib.Core.Path.{_≡_, refl, sym, ap, _∙_}
 use native.Mathlib.Numerals.{add-one}
 use native.Mathlib.Omega.{arith}
 use lib.ListN.{length, getD, set}
@@ -17,11 +17,11 @@ use Rattle.reader.specs.Causes.{Cause, firstCause, headerCauses, familyCauses, 
 use Rattle.reader.specs.WellFormed.{ParentsBelow}
 use Rattle.reader.proofs.Bools.{or-fails-l, or-fails-r}
 use Rattle.reader.proofs.Below.{none-at, none-below, first-at, first-none}
-use Rattle.reader.proofs.First.{head-clear, join-clear, join-holds}
+use Rattle.reader.proofs.First.{Numbered, head-clear, join-clear, join-holds}
 use Rattle.reader.proofs.Accepting.{well-formed, accepted-header, few-regions, file-numbered}
-use Rattle.bounds.specs.Curves.{cause11, cause12, repeated, cause13}
-use Rattle.bounds.specs.Calls.{pathCauses, inputCauses}
-use Rattle.bounds.specs.Private.Walks.{numberCause, firstRepeat, Walkable, Distinct}
+use Rattle.bounds.specs.Curves.{cause11, cause12, repeated, cause13, firstRepeat}
+use Rattle.bounds.specs.Calls.{pathCauses, inputCauses, pathRefusal}
+use Rattle.bounds.specs.Private.Walks.{numberCause, Walkable, Distinct, InputRefused}
 use Rattle.bounds.proofs.Basics.Members.{test, clash, or-r, bit}
 
 -- The first number that passes a test.
@@ -30,6 +30,7 @@ pub record First (n : ℕ) (p : ℕ → Bool) : Type 0 where
   pub at : ℕ
   pub below : at < n
   pub passes : p at ≡ true
+  pub none-before : (i : ℕ) → i < at → p i ≡ false
   pub first : firstBelow n p ≡ suc at
 
 pub first-found : (n : ℕ) (p : ℕ → Bool) → someBelow n p ≡ true → First n p
@@ -37,11 +38,21 @@ unfolding someBelow firstBelow
 first-found zero p h = absurd (clash h refl)
 first-found (suc n) p h =
     ⊎-elim
-    (λ t. let f = first-found n p t in record { at = f .at; below = omega (arith, f .below); passes = f .passes; first = rw t (f .first) })
-    (λ e. let here : p n ≡ true = rw e at h in record { at = n; below = omega arith; passes = here; first = ap (λ (b : Bool). cond b (firstBelow n p) (cond (p n) (suc n) 0)) e ∙ ap (λ (b : Bool). cond b (suc n) 0) here })
+    (λ t.
+    let f = first-found n p t in
+    record { at = f .at; below = omega (arith, f .below); passes = f .passes; none-before = f .none-before; first = rw t (f .first) })
+    (λ e.
+    let here : p n ≡ true = rw e at h in
+    record {
+      at = n;
+      below = omega arith;
+      passes = here;
+      none-before = λ i l. none-at p n i e l;
+      first = ap (λ (b : Bool). cond b (firstBelow n p) (cond (p n) (suc n) 0)) e ∙ ap (λ (b : Bool). cond b (suc n) 0) here;
+    })
     (test (someBelow n p))
 
-pub first-zero : (n : ℕ) (p : ℕ → Bool) → firstBelow n p ≡ 0 → someBelow n p ≡ false
+first-zero : (n : ℕ) (p : ℕ → Bool) → firstBelow n p ≡ 0 → someBelow n p ≡ false
 first-zero n p h = ⊎-elim (λ t. let f = first-found n p t in absurd (omega (arith, f .first))) (λ e. e) (test (someBelow n p))
 
 -- Peptides that stand on the path up to a place.
@@ -101,29 +112,9 @@ module _ (path : List ℕ) where
   unfolding firstRepeat cause13
   all-different h = first-zero (length path) (λ i. repeated path (i + 1)) h
 
-  -- the first repeat is a place on the path whose peptide stands earlier too
-  pub record RepeatedAt (p : ℕ) : Type 0 where
-    pub some : 1 ≤ p
-    pub most : p ≤ length path
-    pub again : repeated path p ≡ true
-
-  pub repeat-found : cause13 path ≡ true → RepeatedAt (firstRepeat path)
-  unfolding firstRepeat cause13
-  repeat-found h =
-      let f = first-found (length path) (λ i. repeated path (i + 1)) h in
-      record {
-        some = omega (arith, f .first);
-        most = omega (arith, f .first, f .below);
-        again = rw (f .first, ← (add-one (f .at))) (f .passes);
-      }
-
   pub repeat-holds : (firstRepeat path ≡ 0 → ⊥) → cause13 path ≡ true
   unfolding firstRepeat cause13
   repeat-holds h = ⊎-elim (λ t. t) (λ f. absurd (h (first-none (λ i. repeated path (i + 1)) (length path) f))) (test (cause13 path))
-
-  -- a place found as the first repeat is one
-  pub repeat-is : (p : ℕ) → 1 ≤ p → p ≡ firstRepeat path → RepeatedAt p
-  repeat-is p some e = subst RepeatedAt (sym e) (repeat-found (repeat-holds (λ z. omega arith)))
 
 -- What the causes say of the numbers on a path.
 
@@ -213,9 +204,22 @@ module _ (s path : List ℕ) where
   unfolding inputCauses
   input-file h = join-holds (fileCauses s) (pathCauses (familyOf s .peptides) path) h
 
+  pub input-numbered : Numbered (inputCauses s path)
+  unfolding inputCauses fileCauses headerCauses familyCauses pathCauses
+  input-numbered = omega arith
+
   pub input-path : Accepted s → firstCause (inputCauses s path) ≡ firstCause (pathCauses (familyOf s .peptides) path)
   unfolding inputCauses
   input-path h = join-clear (fileCauses s) (pathCauses (familyOf s .peptides) path) (file-numbered s) h
+
+  -- the refusal with a number other than 13, and with 13
+  pub input-refused : (n : ℕ) → n ≡ firstCause (inputCauses s path) → (n ≡ 0 → ⊥) → (n ≡ 13 → ⊥) → InputRefused s path (record { number = n; values = [] })
+  unfolding pathRefusal
+  input-refused n e some other = record { some = λ z. some (e ∙ z); told = rw (← e, ne-eqb n 13 other) }
+
+  pub input-repeats : (p : ℕ) → firstCause (inputCauses s path) ≡ 13 → p ≡ firstRepeat path → InputRefused s path (record { number = 13; values = p ∷ [] })
+  unfolding pathRefusal
+  input-repeats p e h = record { some = λ z. omega arith; told = rw (e, h) }
 
   -- what a walk goes by
   pub walkable :

@@ -10,8 +10,7 @@ use Rattle.bounds.specs.declared.path.Admitted.the-variants.{Yes}
 use Rattle.reader.specs.Calls.{short}
 use Rattle.bounds.specs.Calls.{reportCurve, declinedCurve}
 use Rattle.bounds.specs.Private.Walks.{Admission}
-use Rattle.bounds.proofs.Calls.PathLaws.{repeat-is}
-use Rattle.bounds.proofs.Calls.Answering.{curve-declines, curve-repeats, curve-short, curve-writes}
+use Rattle.bounds.proofs.Calls.Answering.{curve-refuses, curve-short, curve-writes}
 use borrow.Author.Needs.{needs}
 use Rattle.bounds.proofs.curve.Statement.{statement}
 use Rattle.bounds.proofs.curve.Tie as tie
@@ -71,14 +70,12 @@ returns-3 c =
 returns-4 : tie.Need-returns-4
 unfolding reportCurve declinedCurve
 returns-4 c =
-    let h = subst (Admission (now (c .before .before .before .before .before .before .before .before .before .before .args .file)) (now (c .before .before .before .before .before .before .before .before .before .before .args .path)) (c .before .before .before .before .admit .last .1 .1 .0)) (c .before .number .given .1) (c .before .before .before .before .admit .ensures) in
-    curve-declines _ _ _ _ _ (h .0) (h .1) (h .2)
+    curve-refuses _ _ _ _ _ (subst (Admission (now (c .before .before .before .before .before .before .before .before .before .before .args .file)) (now (c .before .before .before .before .before .before .before .before .before .before .args .path)) (c .before .before .before .before .admit .last .1 .1 .0)) (c .before .number .given .1) (c .before .before .before .before .admit .ensures))
 
 returns-5 : tie.Need-returns-5
 unfolding reportCurve declinedCurve
 returns-5 c =
-    let h = subst (Admission (now (c .before .before .before .before .before .before .before .before .before .before .args .file)) (now (c .before .before .before .before .before .before .before .before .before .before .args .path)) (c .before .before .before .before .admit .last .1 .1 .0)) (c .before .place .given .1) (c .before .before .before .before .admit .ensures) in
-    curve-repeats _ _ _ _ _ (h .0) (repeat-is _ _ (h .1) (h .2))
+    curve-refuses _ _ _ _ _ (subst (Admission (now (c .before .before .before .before .before .before .before .before .before .before .args .file)) (now (c .before .before .before .before .before .before .before .before .before .before .args .path)) (c .before .before .before .before .admit .last .1 .1 .0)) (c .before .place .given .1) (c .before .before .before .before .admit .ensures))
 
 pub curve-spec : {M : Type 1} → statement M
 curve-spec =

@@ -8,8 +8,7 @@ use Rattle.bounds.specs.declared.path.Admitted.the-variants.{Yes}
 use Rattle.bounds.specs.Curves.{cause15}
 use Rattle.bounds.specs.Calls.{reportCut}
 use Rattle.bounds.specs.Private.Walks.{Admission}
-use Rattle.bounds.proofs.Calls.PathLaws.{repeat-is}
-use Rattle.bounds.proofs.Calls.Answering.{cut-declines, cut-repeats, cut-no-fraction, cut-answers}
+use Rattle.bounds.proofs.Calls.Answering.{cut-refuses, cut-no-fraction, cut-answers}
 use borrow.Author.Needs.{needs}
 use Rattle.bounds.proofs.cut.Statement.{statement}
 use Rattle.bounds.proofs.cut.Tie as tie
@@ -56,14 +55,12 @@ returns-3 c =
 returns-4 : tie.Need-returns-4
 unfolding reportCut
 returns-4 c =
-    let h = subst (Admission (now (c .before .before .before .before .before .before .before .before .args .file)) (now (c .before .before .before .before .before .before .before .before .args .path)) (c .before .before .before .before .admit .last .1 .1 .0)) (c .before .number .given .1) (c .before .before .before .before .admit .ensures) in
-    cut-declines _ _ _ _ _ (h .0) (h .1) (h .2)
+    cut-refuses _ _ _ _ _ (subst (Admission (now (c .before .before .before .before .before .before .before .before .args .file)) (now (c .before .before .before .before .before .before .before .before .args .path)) (c .before .before .before .before .admit .last .1 .1 .0)) (c .before .number .given .1) (c .before .before .before .before .admit .ensures))
 
 returns-5 : tie.Need-returns-5
 unfolding reportCut
 returns-5 c =
-    let h = subst (Admission (now (c .before .before .before .before .before .before .before .before .args .file)) (now (c .before .before .before .before .before .before .before .before .args .path)) (c .before .before .before .before .admit .last .1 .1 .0)) (c .before .place .given .1) (c .before .before .before .before .admit .ensures) in
-    cut-repeats _ _ _ _ _ (h .0) (repeat-is _ _ (h .1) (h .2))
+    cut-refuses _ _ _ _ _ (subst (Admission (now (c .before .before .before .before .before .before .before .before .args .file)) (now (c .before .before .before .before .before .before .before .before .args .path)) (c .before .before .before .before .admit .last .1 .1 .0)) (c .before .place .given .1) (c .before .before .before .before .admit .ensures))
 
 pub cut-spec : {M : Type 1} → statement M
 cut-spec =

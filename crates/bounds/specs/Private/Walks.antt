@@ -1,16 +1,17 @@
 -- What the private functions that check a path and walk along it promise each other.
 use Prim.Native.Nat.{ℕ, zero, suc, _+_, _-_, _<_, _≤_}
 use mathlib.Core.Bool.{Bool, true, false, cond, _&&_}
-use mathlib.Core.List.{List}
+use mathlib.Core.List.{List, [], _∷_}
 use mathlib.Core.Path.{_≡_}
 use lib.ListN.{length, getD}
 use lib.Dec.{leb, eqb}
-use Rattle.reader.specs.Lists.{someBelow, firstBelow}
+use Rattle.reader.specs.Lists.{someBelow}
 use Rattle.reader.specs.Family.{Family, familyOf, regionCount, region, leafOf}
 use Rattle.reader.specs.Causes.{firstCause}
+use Rattle.reader.specs.Calls.{Report}
 use Rattle.reader.specs.WellFormed.{WellFormed, Nested}
-use Rattle.bounds.specs.Curves.{cause11, cause12, repeated}
-use Rattle.bounds.specs.Calls.{inputCauses}
+use Rattle.bounds.specs.Curves.{cause11, cause12}
+use Rattle.bounds.specs.Calls.{inputCauses, pathRefusal}
 use Rattle.bounds.specs.declared.path.Admitted.{Admitted}
 use Rattle.bounds.specs.declared.path.Admitted.the-variants.{Yes, Refused, Repeated}
 
@@ -19,10 +20,6 @@ use Rattle.bounds.specs.declared.path.Admitted.the-variants.{Yes, Refuse
 -- 11 or 12, or 0 if neither of these causes holds
 unfoldable pub numberCause : ℕ → List ℕ → ℕ
 numberCause m path = cond (cause11 m path) 11 (cond (cause12 m path) 12 0)
-
--- the first place, counted from 1, whose peptide stands earlier too; 0 if there is none
-unfoldable pub firstRepeat : List ℕ → ℕ
-firstRepeat path = firstBelow (length path) (λ i. repeated path (i + 1))
 
 -- the path is different peptide numbers, each from 1 to m
 pub record Distinct (m : ℕ) (path : List ℕ) : Type 0 where
@@ -37,11 +34,16 @@ pub record Walkable (F : Family) (path P : List ℕ) : Type 0 where
   pub short : length path ≤ F .peptides
   pub different : Distinct (F .peptides) path
 
--- a family and a path are accepted, or a number of a cause, or 13 with the first place whose peptide stands earlier too
+-- a cause of the family or the path holds, and r is the refusal with the first
+pub record InputRefused (file path : List ℕ) (r : Report) : Type 0 where
+  pub some : firstCause (inputCauses file path) ≡ 0 → ⊥
+  pub told : r ≡ pathRefusal path (firstCause (inputCauses file path))
+
+-- a family and a path are accepted, or refused
 abbrev pub Admission : List ℕ → List ℕ → List ℕ → Admitted → Type 0
 Admission file path P Yes = (firstCause (inputCauses file path) ≡ 0) × Walkable (familyOf file) path P
-Admission file path P (Refused n) = (n ≡ firstCause (inputCauses file path)) × (n ≡ 0 → ⊥) × (n ≡ 13 → ⊥)
-Admission file path P (Repeated p) = (firstCause (inputCauses file path) ≡ 13) × (1 ≤ p) × (p ≡ firstRepeat path)
+Admission file path P (Refused n) = InputRefused file path (record { number = n; values = [] })
+Admission file path P (Repeated p) = InputRefused file path (record { number = 13; values = p ∷ [] })
 
 -- The regions that hold a leaf.
 

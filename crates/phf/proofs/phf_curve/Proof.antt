@@ -1,5 +1,6 @@
 -- The curve's answer, field by field; the values and the marks are the curve's.
-use Rattle.bounds.specs.Calls.{reportCurve}
+use mathlib.Core.Path.{ap, _∙_}
+use Rattle.phf.specs.Fields.{curvedFields}
 use Rattle.phf.proofs.FieldLaws.{curve-written, curve-refused, curve-repeated}
 use borrow.Author.Needs.{needs}
 use Rattle.phf.proofs.phf_curve.Statement.{statement}
@@ -25,7 +26,7 @@ same-length-2 c = search needs
 
 returns : tie.Need-returns
 returns c =
-    (record { told = reportCurve (c .before .before .before .before .before .before .curve .result); answers = c .before .before .before .before .before .before .curve .ensures .0; fields = curve-written _ (c .enum-told .given .1) }, (c .before .before .before .before .before .before .curve .ensures .1 .0, c .before .before .before .before .before .before .curve .ensures .1 .1 .0))
+    (curve-written _ (c .enum-told .given .1) ∙ ap curvedFields (c .before .before .before .before .before .before .curve .ensures .0), (c .before .before .before .before .before .before .curve .ensures .1 .0, c .before .before .before .before .before .before .curve .ensures .1 .1 .0))
 
 same-length-3 : tie.Need-same-length-3
 same-length-3 c = search needs
@@ -35,7 +36,7 @@ same-length-4 c = search needs
 
 returns-2 : tie.Need-returns-2
 returns-2 c =
-    (record { told = reportCurve (c .before .before .before .before .before .before .before .curve .result); answers = c .before .before .before .before .before .before .before .curve .ensures .0; fields = curve-refused _ _ (c .before .number .given .1) }, (c .before .before .before .before .before .before .before .curve .ensures .1 .0, c .before .before .before .before .before .before .before .curve .ensures .1 .1 .0))
+    (curve-refused _ _ (c .before .number .given .1) ∙ ap curvedFields (c .before .before .before .before .before .before .before .curve .ensures .0), (c .before .before .before .before .before .before .before .curve .ensures .1 .0, c .before .before .before .before .before .before .before .curve .ensures .1 .1 .0))
 
 same-length-5 : tie.Need-same-length-5
 same-length-5 c = search needs
@@ -45,7 +46,7 @@ same-length-6 c = search needs
 
 returns-3 : tie.Need-returns-3
 returns-3 c =
-    (record { told = reportCurve (c .before .before .before .before .before .before .before .curve .result); answers = c .before .before .before .before .before .before .before .curve .ensures .0; fields = curve-repeated _ _ (c .before .place .given .1) }, (c .before .before .before .before .before .before .before .curve .ensures .1 .0, c .before .before .before .before .before .before .before .curve .ensures .1 .1 .0))
+    (curve-repeated _ _ (c .before .place .given .1) ∙ ap curvedFields (c .before .before .before .before .before .before .before .curve .ensures .0), (c .before .before .before .before .before .before .before .curve .ensures .1 .0, c .before .before .before .before .before .before .before .curve .ensures .1 .1 .0))
 
 pub phf-curve-spec : {M : Type 1} → statement M
 phf-curve-spec =

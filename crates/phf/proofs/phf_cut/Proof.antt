@@ -1,5 +1,6 @@
 -- The cut's answer, field by field.
-use Rattle.bounds.specs.Calls.{reportCut}
+use mathlib.Core.Path.{ap, _∙_}
+use Rattle.phf.specs.Fields.{cuttingFields}
 use Rattle.phf.proofs.FieldLaws.{cut-found, cut-refused, cut-repeated}
 use borrow.Author.Needs.{needs}
 use Rattle.phf.proofs.phf_cut.Statement.{statement}
@@ -18,16 +19,13 @@ enum-known-place : tie.Need-enum-known-place
 enum-known-place c = search needs
 
 returns : tie.Need-returns
-returns c =
-    record { told = reportCut (c .before .before .before .cut .result); answers = c .before .before .before .cut .ensures; fields = cut-found _ _ (c .before .cut2 .given .1) }
+returns c = cut-found _ _ (c .before .cut2 .given .1) ∙ ap cuttingFields (c .before .before .before .cut .ensures)
 
 returns-2 : tie.Need-returns-2
-returns-2 c =
-    record { told = reportCut (c .before .before .before .cut .result); answers = c .before .before .before .cut .ensures; fields = cut-refused _ _ (c .before .number .given .1) }
+returns-2 c = cut-refused _ _ (c .before .number .given .1) ∙ ap cuttingFields (c .before .before .before .cut .ensures)
 
 returns-3 : tie.Need-returns-3
-returns-3 c =
-    record { told = reportCut (c .before .before .before .cut .result); answers = c .before .before .before .cut .ensures; fields = cut-repeated _ _ (c .before .place .given .1) }
+returns-3 c = cut-repeated _ _ (c .before .place .given .1) ∙ ap cuttingFields (c .before .before .before .cut .ensures)
 
 pub phf-cut-spec : {M : Type 1} → statement M
 phf-cut-spec =

@@ -10,7 +10,7 @@ use Rattle.reader.specs.Calls.{report}
 use Rattle.reader.proofs.Accepting.{well-formed, learns-accepted, learns-refused}
 use Rattle.reader.proofs.ParentLaws.{enough-room, enough-first, enough-checked, parents-given}
 use Rattle.bounds.specs.Private.Walks.{numberCause}
-use Rattle.bounds.proofs.Calls.PathLaws.{all-different, repeat-holds, number-first, path-13, path-none, path-short, path-numbers, file-most, input-file, input-path, walkable}
+use Rattle.bounds.proofs.Calls.PathLaws.{all-different, repeat-holds, number-first, path-13, path-none, path-short, path-numbers, file-most, input-file, input-path, input-refused, input-repeats, walkable}
 use borrow.Author.Needs.{needs}
 use Rattle.bounds.proofs.path.admit.Statement.{statement}
 use Rattle.bounds.proofs.path.admit.Tie as tie
@@ -46,11 +46,8 @@ returns : tie.Need-returns
 returns c =
     let s = now (c .before .before .before .before .before .before .before .before .before .before .before .before .args .file) in
     let path = now (c .before .before .before .before .before .before .before .before .before .before .before .before .args .path) in
-    let f = number-first (familyOf s .peptides) path (λ z. c .if1 .taken (number-read (c .before) ∙ z)) in (
-      number-read (c .before) ∙ sym (f .0) ∙ sym (input-path s path (accepted (c .before .before .before) .0)),
-      c .if1 .taken,
-      λ z. omega (arith, number-read (c .before), f .1),
-    )
+    let f = number-first (familyOf s .peptides) path (λ z. c .if1 .taken (number-read (c .before) ∙ z)) in
+    input-refused s path _ (number-read (c .before) ∙ sym (f .0) ∙ sym (input-path s path (accepted (c .before .before .before) .0))) (c .if1 .taken) (λ z. omega (arith, number-read (c .before), f .1))
 
 first-repeat-requires : tie.Need-first-repeat-requires
 first-repeat-requires c κs =
@@ -68,11 +65,8 @@ returns-2 c =
     let s = now (c .before .before .before .before .before .before .before .before .before .before .before .before .before .before .args .file) in
     let path = now (c .before .before .before .before .before .before .before .before .before .before .before .before .before .before .args .path) in
     let none = sym (number-read (c .before .before .before)) ∙ c .before .before .if1 .left in
-    let some = c .if2 .taken in (
-      input-path s path (accepted (c .before .before .before .before .before) .0) ∙ path-13 (familyOf s .peptides) path none (repeat-holds path (λ z. some (c .before .first-repeat .ensures ∙ z))),
-      omega arith,
-      c .before .first-repeat .ensures,
-    )
+    let some = c .if2 .taken in
+    input-repeats s path _ (input-path s path (accepted (c .before .before .before .before .before) .0) ∙ path-13 (familyOf s .peptides) path none (repeat-holds path (λ z. some (c .before .first-repeat .ensures ∙ z)))) (c .before .first-repeat .ensures)
 
 enum-known-number : tie.Need-enum-known-number
 enum-known-number c = search needs
@@ -100,11 +94,8 @@ returns-4 : tie.Need-returns-4
 returns-4 c =
     let s = now (c .before .before .before .before .before .before .before .before .before .before .args .file) in
     let path = now (c .before .before .before .before .before .before .before .before .before .before .args .path) in
-    let r = learns-refused s _ (ap report (sym (c .before .number .given .1)) ∙ c .before .before .before .before .before .parents .ensures .0 ∙ enough-checked _ _ (c .before .before .before .before .before .before .before .before .before .before .pre)) in (
-      r .0 ∙ sym (input-file s path (λ z. r .1 (r .0 ∙ z))),
-      r .1,
-      λ z. omega (arith, r .0, file-most s),
-    )
+    let r = learns-refused s _ (ap report (sym (c .before .number .given .1)) ∙ c .before .before .before .before .before .parents .ensures .0 ∙ enough-checked _ _ (c .before .before .before .before .before .before .before .before .before .before .pre)) in
+    input-refused s path _ (r .0 ∙ sym (input-file s path (λ z. r .1 (r .0 ∙ z)))) (r .1) (λ z. omega (arith, r .0, file-most s))
 
 pub admit-spec : {M : Type 1} → statement M
 admit-spec =
