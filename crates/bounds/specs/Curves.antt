@@ -69,7 +69,8 @@ firstRepeat path = firstBelow (length path) (λ i. repeated path (i + 1))
 abbrev pub peptideAt : List ℕ → ℕ → ℕ
 peptideAt path t = getD path (t - 1) 0
 
--- p is the first such place: from 2 to T, its peptide stands at an earlier place q too, and the peptides before p are all different
+-- p is the first place whose peptide stands earlier too: from 2 to T, its peptide stands at a place q before it too, and the peptides
+-- at the places before p are all different
 pub record IsFirstRepeat (path : List ℕ) (p : ℕ) : Type 0 where
   pub from-two : 2 ≤ p
   pub most : p ≤ length path
