@@ -3,7 +3,7 @@ use Prim.Native.Nat.{ℕ, _+_, _≤_}
 use mathlib.Core.Bool.{Bool, true, false, not, _||_}
 use mathlib.Core.List.{List, [], _∷_, _++_}
 use mathlib.Core.Logic.{⊎-elim}
-use mathlib.Core.Path.{_≡_, refl, sym, ap, _∙_}
+use mathlib.Core.Path.{_≡_, sym, ap, _∙_}
 use native.Mathlib.Omega.{arith}
 use lib.ListN.{length, drop}
 use lib.Dec.{eqb}
@@ -40,12 +40,12 @@ module _ (cs : List Cause) (path result : List ℕ) where
 
 module _ (file path : List ℕ) where
   -- a family or a path that is refused is refused so by every call with them, whatever else it tries and gives
-  pub refused-so : (more : List Cause) (result : List ℕ) (r : Report) → InputRefused file path r → r ≡ pathAnswer (inputCauses file path ++ more) path result
+  refused-so : (more : List Cause) (result : List ℕ) (r : Report) → InputRefused file path r → r ≡ pathAnswer (inputCauses file path ++ more) path result
   refused-so more result r h =
       let same = join-holds (inputCauses file path) more (h .some) in
       h .told ∙ ap (pathRefusal path) (sym same) ∙ sym (path-refuses _ path result (λ z. h .some (sym same ∙ z)))
 
-  pub refused-some : (more : List Cause) (r : Report) → InputRefused file path r → firstCause (inputCauses file path ++ more) ≡ 0 → ⊥
+  refused-some : (more : List Cause) (r : Report) → InputRefused file path r → firstCause (inputCauses file path ++ more) ≡ 0 → ⊥
   refused-some more r h z = h .some (sym (join-holds (inputCauses file path) more (h .some)) ∙ z)
 
 module _ (file path : List ℕ) (c : Cause) (clear : firstCause (inputCauses file path) ≡ 0) where

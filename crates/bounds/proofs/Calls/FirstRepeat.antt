@@ -4,7 +4,7 @@ use Prim.Native.Nat.{ℕ, _+_, _-_, _<_, _≤_}
 use mathlib.Core.Bool.{Bool, true, false, cond}
 use mathlib.Core.List.{List, [], _∷_, _++_}
 use mathlib.Core.Logic.{⊎-elim, _↔_}
-use mathlib.Core.Path.{_≡_, refl, sym, ap, subst, _∙_}
+use mathlib.Core.Path.{_≡_, refl, sym, subst, _∙_}
 use native.Mathlib.Numerals.{add-one}
 use native.Mathlib.Omega.{arith}
 use lib.ListN.{length, getD}
@@ -40,7 +40,7 @@ module _ (path : List ℕ) where
 
   -- The first repeat.
 
-  pub is-first : cause13 path ≡ true → IsFirstRepeat path (firstRepeat path)
+  is-first : cause13 path ≡ true → IsFirstRepeat path (firstRepeat path)
   unfolding cause13 firstRepeat
   is-first h =
       let f = first-found (length path) (λ i. repeated path (i + 1)) h in
@@ -54,8 +54,8 @@ module _ (path : List ℕ) where
         first = λ q r some less before. let back : r - 1 + 1 ≡ r = omega arith in differs r (rw back at (f .none-before (r - 1) (omega arith))) q some less;
       })
 
-  first-is : (p : ℕ) → IsFirstRepeat path p → firstRepeat path ≡ p
-  first-is p h =
+  first-only : (p : ℕ) → IsFirstRepeat path p → firstRepeat path ≡ p
+  first-only p h =
       let i : ℕ = p - 1 in
       let here : i + 1 ≡ p = omega (arith, h .from-two) in
       let twin = h .earlier in
@@ -70,7 +70,7 @@ module _ (path : List ℕ) where
 
   -- a number other than 0 is what `firstRepeat` gives exactly if it is the first such place
   pub first-repeat : (p : ℕ) → (p ≡ 0 → ⊥) → (firstRepeat path ≡ p) ↔ IsFirstRepeat path p
-  first-repeat p some = (λ e. subst (IsFirstRepeat path) e (is-first (repeat-holds path (λ z. some (sym e ∙ z)))), first-is p)
+  first-repeat p some = (λ e. subst (IsFirstRepeat path) e (is-first (repeat-holds path (λ z. some (sym e ∙ z)))), first-only p)
 
   -- it gives 0 exactly if no peptide stands twice
   pub no-repeat : (firstRepeat path ≡ 0) ↔ (cause13 path ≡ false)
