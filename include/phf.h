@@ -56,8 +56,8 @@ extern "C" {
 #endif
 
 /*
- * The version. Before 1.0.0 the calls, their answers, the numbers and the file may still change, and others may be added:
- * MINOR rises then. PATCH rises when all of these stay as they are.
+ * The version. Before 1.0.0 the calls, what is promised of their answers, the numbers and the file may still change, and
+ * others may be added: MINOR rises then. PATCH rises when all of these stay as they are.
  */
 #define PHF_VERSION_MAJOR 0
 #define PHF_VERSION_MINOR 11

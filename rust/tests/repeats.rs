@@ -26,9 +26,9 @@ fn several_repeats() {
     let eight = file_of(&eight_peptides());
     // 3 again at 4, 7 at 5, 1 at 6
     assert_eq!(told(&eight, &[7, 3, 1, 3, 7, 1]), (13, 4));
+    assert_eq!(told(&eight, &[1, 2, 1, 2]), (13, 3));
     // the pair that closes first, not the one that opens first
     assert_eq!(told(&eight, &[1, 2, 2, 1]), (13, 3));
-    assert_eq!(told(&eight, &[1, 2, 1, 2]), (13, 3));
     assert_eq!(told(&eight, &[8, 8]), (13, 2));
     assert_eq!(told(&eight, &[8, 8, 7, 7, 6, 6, 5, 5]), (13, 2));
     assert_eq!(told(&eight, &[5, 6, 7, 8, 8, 7, 6, 5]), (13, 5));
@@ -100,8 +100,12 @@ fn before_a_repeat() {
 #[test]
 fn after_a_repeat() {
     let eight = file_of(&eight_peptides());
-    let curve = guarded::curve(&eight, &[1, 2, 1, 2], &mut [], &mut []);
-    assert_eq!((curve.number, curve.place), (13, 3));
+    for (values, marks) in [(0, 0), (4, 4), (5, 3), (0, 4), (5, 0)] {
+        let (mut values, mut marks) = (vec![777; values], vec![77; marks]);
+        let curve = guarded::curve(&eight, &[1, 2, 1, 2], &mut values, &mut marks);
+        assert_eq!((curve.number, curve.place), (13, 3));
+        assert!(values.iter().all(|v| *v == 777) && marks.iter().all(|v| *v == 77));
+    }
     for (a, b) in [(0, 0), (2, 1), (65535, 0)] {
         let cut = guarded::cut(&eight, &[1, 2, 1, 2], a, b);
         assert_eq!((cut.number, cut.place, cut.cut), (13, 3, 0));
@@ -141,6 +145,30 @@ fn with_repeats(random: &mut Random, m: usize) -> (Vec<u16>, u16) {
         first = first.min(place);
     }
     (path, first as u16)
+}
+
+/// A merged ranking, corrected from the top: what stands at the told place is taken out, until the path is accepted. What is
+/// left is each peptide where it stood first.
+#[test]
+fn corrected_from_the_top() {
+    cases(42, 500, |random| {
+        let m = random.between(2, 40);
+        let file = file_of(&random_family(random, m));
+        let t = random.between(1, m);
+        let merged: Vec<u16> = (0..t).map(|_| random.between(1, m) as u16).collect();
+        let mut path = merged.clone();
+        let mut last = 1;
+        while let (13, place) = told(&file, &path) {
+            // nothing before a place that was told is ever told again
+            assert!(place > last);
+            last = place - 1;
+            path.remove(place as usize - 1);
+        }
+        assert_eq!(told(&file, &path), (0, 0));
+        let first = |i: &usize| !merged[..*i].contains(&merged[*i]);
+        let expected: Vec<u16> = (0..t).filter(first).map(|i| merged[i]).collect();
+        assert_eq!(path, expected);
+    });
 }
 
 #[test]
