@@ -1,4 +1,4 @@
--- How a promise in the words of `answer` and `written` becomes demand 1.
+-- How a promise in the words of `answer`, `pathAnswer` and `written` becomes demand 1.
 use Prim.Native.Nat.{ℕ}
 use mathlib.Core.List.{List, [], _∷_, _++_}
 use mathlib.Core.Path.{_≡_, refl, sym, ap, ap₂, _∙_}
