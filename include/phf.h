@@ -3,14 +3,16 @@
  *
  * A family says, for each of a number of nested or disjoint regions of peptides, that at most z of the region's
  * peptides are false. These calls check such a family, tell how many of a selection of peptides can be false at most,
- * draw that number along a ranking, cut the ranking at a wanted fraction, bring a family into its shortest form, and
- * compare two families.
+ * make such a selection from p-values and fold changes, draw that number along a ranking, cut the ranking at a wanted
+ * fraction, bring a family into its shortest form, and compare two families.
  *
  * Every function here is proved: for all inputs, well formed or not, it returns and writes what is said below.
  * What the proofs take for granted is the usual contract of C:
  *   - a buffer is a pointer and a number of elements (not bytes): the elements are there, and aligned;
  *   - a buffer that is written overlaps no other buffer of the same call;
- *   - a buffer with 0 elements is not looked at, and its pointer may be anything, NULL included.
+ *   - a buffer with 0 elements is not looked at, and its pointer may be anything, NULL included;
+ *   - a double is a 64-bit float of IEEE 754 and is compared as it says there: the machine is in no mode that takes
+ *     subnormal numbers for 0.
  *
  * No function keeps anything from one call to the next, allocates, or fails otherwise than by the number it returns.
  * All may be called from several threads at once. They need up to 512 KB of stack.
@@ -18,8 +20,9 @@
  * BUILDING. tools/staticlib proves the functions and writes target/staticlib/libphf.a, to link with a program;
  * tools/sharedlib makes target/sharedlib/libphf.so of it. Both run in any folder and print where the library is.
  *
- * THE NUMBER. Each answer but phf_part has a field `number`: PHF_DONE if the call did its work, else the number of the
- * first cause of enum phf_number that holds, of those that the call tries. Fields of an answer that have no value are 0.
+ * THE NUMBER. Each answer but phf_part has a field `number`, and that of phf_choose_... is the number itself: PHF_DONE if
+ * the call did its work, else the number of the first cause of enum phf_number that holds, of those that the call tries.
+ * Fields of an answer that have no value are 0.
  *
  * BUFFERS. A declined call leaves every buffer as it was. A call that did its work writes its outputs from their start, as
  * far as is said there, and leaves what lies beyond, and all inputs, as they were.
@@ -60,7 +63,7 @@ extern "C" {
  * others may be added: MINOR rises then. PATCH rises when all of these stay as they are.
  */
 #define PHF_VERSION_MAJOR 0
-#define PHF_VERSION_MINOR 11
+#define PHF_VERSION_MINOR 12
 #define PHF_VERSION_PATCH 0
 
 /* The largest sizes: peptides, leaves, regions, and bytes of a family file. */
@@ -106,8 +109,14 @@ enum phf_number {
     PHF_BAD_SELECTION = 14,
     /* b is 0, or a is over b */
     PHF_BAD_FRACTION = 15,
-    /* an output is shorter than needed */
-    PHF_SHORT_OUTPUT = 16
+    /* an output is shorter than needed; for phf_choose_... see 17 */
+    PHF_SHORT_OUTPUT = 16,
+    /* the p-values or the folds are not m numbers, or the output has under m bytes */
+    PHF_BAD_ROWS_LENGTH = 17,
+    /* a p-value is not a number or outside 0 to 1, or a fold is not finite */
+    PHF_BAD_ROW = 18,
+    /* a cut or the fold of the rule is not a number, or that fold is under 0 (-0.0 is not) */
+    PHF_BAD_RULE = 19
 };
 
 /* What phf_same adds to a number of its second file: PHF_OF_SECOND_FILE + PHF_BAD_LAYOUT is 105. */
@@ -152,6 +161,41 @@ typedef struct phf_bounded {
 phf_bounded phf_bound(const uint8_t *file, size_t file_len,
                       const uint8_t *selection, size_t selection_len,
                       uint8_t *taken, size_t taken_len);
+
+/*
+ * The selection of the peptides whose p-value and log fold change pass a rule, for phf_bound. The answer is the number.
+ * Causes 2, 17, 18, 19, in this order.
+ *
+ * m:     how many peptides, 1 to 4096.
+ * p:     m p-values from 0 to 1; p[i] is that of peptide i + 1.
+ * folds: m finite log fold changes, in the same order.
+ * out:   at least m bytes; out[i] becomes 1 if row i, which is p[i] and folds[i], passes, else 0, for i from 0 to m - 1, and
+ *        the rest is unchanged.
+ *
+ * A row passes
+ *   phf_choose_at_most   if p[i] <= cut;
+ *   phf_choose_between   if low <= p[i] and p[i] <= high: none does if low is above high, and that is no refusal;
+ *   phf_choose_volcano   if p[i] <= cut and also folds[i] >= fold or folds[i] <= -fold.
+ *
+ * Cuts may be any number, infinite ones too; fold may be any that is not under 0. 0.0 and -0.0 are equal everywhere.
+ */
+uint16_t phf_choose_at_most(uint16_t m,
+                            const double *p, size_t p_len,
+                            const double *folds, size_t folds_len,
+                            double cut,
+                            uint8_t *out, size_t out_len);
+
+uint16_t phf_choose_between(uint16_t m,
+                            const double *p, size_t p_len,
+                            const double *folds, size_t folds_len,
+                            double low, double high,
+                            uint8_t *out, size_t out_len);
+
+uint16_t phf_choose_volcano(uint16_t m,
+                            const double *p, size_t p_len,
+                            const double *folds, size_t folds_len,
+                            double cut, double fold,
+                            uint8_t *out, size_t out_len);
 
 /*
  * The curve along a ranking. path is T different peptide numbers, T from 0 to m. Causes 1 to 13, 16.

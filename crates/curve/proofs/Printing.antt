@@ -89,7 +89,7 @@ module _ (s path : List ℕ) where
       let rest = clear-right (fileCauses s) _ (file-numbered s) h in
       let m : ℕ = familyOf s .peptides in
       let few = head-clear (record { number = 11; holds = cause11 m path }) _ (omega arith) rest in
-      let most = peptides-counted (familyOf s) (accepted-header s a .no2) in
+      let most = peptides-counted (familyOf s .peptides) (accepted-header s a .no2) in
       omega (arith, ltb-false m (length path) (few .0))
 
   -- the values and the marks have room, so the curve has no cause of its own

@@ -11,6 +11,7 @@ use mathlib.Core.Logic.{_⊎_, inl, inr, ⊎-elim, _↔_}
 use native.Mathlib.Omega.{arith}
 use lib.ListN.{length, drop, length-drop, drop-of-length-le}
 use lib.Dec.{eqb}
+use lib.Ieee.{Float}
 use Rattle.reader.specs.Lists.{sameList}
 use Rattle.reader.specs.Bytes.{numberAt}
 use Rattle.reader.specs.Family.{familyOf, leaves, regionCount, regionsOffset}
@@ -37,6 +38,10 @@ use Rattle.reduction.specs.declared.ReducedFile.{ReducedFile}
 use Rattle.reduction.specs.declared.ReducedFile.the-variants as made
 use Rattle.reduction.specs.declared.Compared.{Compared}
 use Rattle.reduction.specs.declared.Compared.the-variants as compared
+use Rattle.volcano.specs.Rules.{chosen}
+use Rattle.volcano.specs.Calls.{chooseCauses, ChooseAnswers, ChooseWrites}
+use Rattle.volcano.specs.declared.Rule.{Rule}
+use Rattle.volcano.specs.declared.Rule.the-variants.{AtMost, Between, Volcano}
 use Rattle.phf.specs.Fields.{valueAt, valueWith, checkedFields, partFields, boundedFields, curvedFields, cuttingFields, reducedFields, comparedFields}
 use Rattle.phf.specs.Calls.{PhfCheckAnswers, PhfRegionsAnswers, PhfBoundAnswers, PhfCurveAnswers, PhfCutAnswers, PhfReduceAnswers, PhfSameAnswers}
 use Rattle.phf.specs.Obeys.{numbers, NoZero, NoneHolds, FirstHolds, Obeys}
@@ -48,7 +53,7 @@ use Rattle.phf.specs.declared.PhfCutting.{PhfCutting}
 use Rattle.phf.specs.declared.PhfReduced.{PhfReduced}
 use Rattle.phf.specs.declared.PhfCompared.{PhfCompared}
 use Rattle.phf.proofs.FieldLaws.{part-fields, no-part-fields, curve-refusal-fields, cut-refusal-fields}
-use Rattle.phf.proofs.Obeying.{first-is, numbered-if, none-is, Lent, nothing-lent, lent-too, lent-one, made-obeys, remade-obeys, path-obeys}
+use Rattle.phf.proofs.Obeying.{first-is, numbered-if, none-is, Lent, nothing-lent, lent-too, lent-one, made-obeys, number-obeys, remade-obeys, path-obeys}
 use Rattle.phf.proofs.LibraryAnswers.{checkedOf, boundedOf, reducedOf, comparedOf, checked-remade, bounded-remade, reduced-remade, compared-remade, yes-or-no, curvedOf, cutFoundOf, curvedBy, cutFoundBy, curve-told, cut-told, curve-refusal, cut-refusal}
 
 pub record DemandOne : Type 0 where
@@ -60,6 +65,7 @@ pub record DemandOne : Type 0 where
   pub check-tries : (file : List ℕ) → numbers (fileCauses file) ≡ 1 ∷ 2 ∷ 3 ∷ 4 ∷ 5 ∷ 6 ∷ 7 ∷ 8 ∷ 9 ∷ 10 ∷ []
   pub parents-tries : (file out : List ℕ) → numbers (parentsCauses file out) ≡ 1 ∷ 2 ∷ 3 ∷ 4 ∷ 5 ∷ 6 ∷ 7 ∷ 8 ∷ 9 ∷ 10 ∷ 16 ∷ []
   pub bound-tries : (file selection out : List ℕ) → numbers (selectionCauses file selection out) ≡ 1 ∷ 2 ∷ 3 ∷ 4 ∷ 5 ∷ 6 ∷ 7 ∷ 8 ∷ 9 ∷ 10 ∷ 14 ∷ 16 ∷ []
+  pub choose-tries : (m : ℕ) (ps folds : List Float) (rule : Rule) (room : ℕ) → numbers (chooseCauses m ps folds rule room) ≡ 2 ∷ 17 ∷ 18 ∷ 19 ∷ []
   pub curve-tries : (file path values marks : List ℕ) → numbers (curveCauses file path values marks) ≡ 1 ∷ 2 ∷ 3 ∷ 4 ∷ 5 ∷ 6 ∷ 7 ∷ 8 ∷ 9 ∷ 10 ∷ 11 ∷ 12 ∷ 13 ∷ 16 ∷ []
   pub cut-tries : (file path : List ℕ) (a b : ℕ) → numbers (cutCauses file path a b) ≡ 1 ∷ 2 ∷ 3 ∷ 4 ∷ 5 ∷ 6 ∷ 7 ∷ 8 ∷ 9 ∷ 10 ∷ 11 ∷ 12 ∷ 13 ∷ 15 ∷ []
   pub reduce-tries : (file out : List ℕ) → numbers (reduceCauses file out) ≡ 1 ∷ 2 ∷ 3 ∷ 4 ∷ 5 ∷ 6 ∷ 7 ∷ 8 ∷ 9 ∷ 10 ∷ 16 ∷ []
@@ -74,6 +80,12 @@ pub record DemandOne : Type 0 where
       → Obeys (selectionCauses file selection taken)
       r (λ n. record { number = n; bound = 0 }) (record { number = 0; bound = boundOf (familyOf file) selection })
       (new ∷ []) (taken ∷ []) (atStart (takenOf (familyOf file) selection) taken ∷ [])
+  pub phf-choose-at-most : (m : ℕ) (ps folds : List Float) (cut : Float) (out new : List ℕ) (r : ℕ) → ChooseAnswers m ps folds (AtMost cut) out r → ChooseWrites m ps folds (AtMost cut) out new
+      → Obeys (chooseCauses m ps folds (AtMost cut) (length out)) r (λ n. n) 0 (new ∷ []) (out ∷ []) (atStart (chosen (AtMost cut) ps folds) out ∷ [])
+  pub phf-choose-between : (m : ℕ) (ps folds : List Float) (low high : Float) (out new : List ℕ) (r : ℕ) → ChooseAnswers m ps folds (Between low high) out r → ChooseWrites m ps folds (Between low high) out new
+      → Obeys (chooseCauses m ps folds (Between low high) (length out)) r (λ n. n) 0 (new ∷ []) (out ∷ []) (atStart (chosen (Between low high) ps folds) out ∷ [])
+  pub phf-choose-volcano : (m : ℕ) (ps folds : List Float) (cut fold : Float) (out new : List ℕ) (r : ℕ) → ChooseAnswers m ps folds (Volcano cut fold) out r → ChooseWrites m ps folds (Volcano cut fold) out new
+      → Obeys (chooseCauses m ps folds (Volcano cut fold) (length out)) r (λ n. n) 0 (new ∷ []) (out ∷ []) (atStart (chosen (Volcano cut fold) ps folds) out ∷ [])
   pub phf-curve : (file path values marks newValues newMarks : List ℕ) (r : PhfCurved) → PhfCurveAnswers file path values marks r → CurveValuesWrites file path values marks newValues → CurveMarksWrites file path values marks newMarks
       → Obeys (curveCauses file path values marks)
       r (λ n. record { number = n; place = cond (eqb n 13) (firstRepeat path) 0 }) (record { number = 0; place = 0 })
@@ -90,7 +102,7 @@ pub record DemandOne : Type 0 where
       → Obeys (compareCauses first second)
       r (λ n. record { number = n; same = 0 }) (record { number = 0; same = cond (sameList (reducedFile first) (reducedFile second)) 1 0 })
       [] [] []
-  -- The calls of the three libraries, in the same order.
+  -- The calls of the libraries, in the same order.
   pub check : (file : List ℕ) (r : Checked) → CheckAnswers file r
       → Obeys (fileCauses file) r told.Refused (told.Family (familyOf file .peptides) (leaves (familyOf file)) (regionCount (familyOf file))) [] [] []
   pub parents : (file out new : List ℕ) (r : Checked) → ParentsAnswers file out r → ParentsWrites file out new
@@ -105,6 +117,8 @@ pub record DemandOne : Type 0 where
       → Obeys (selectionCauses file selection out)
       r bounded.Refused (bounded.Bound (boundOf (familyOf file) selection))
       (new ∷ []) (out ∷ []) (atStart (totalsOf (familyOf file) selection) out ∷ [])
+  pub choose : (m : ℕ) (ps folds : List Float) (rule : Rule) (out new : List ℕ) (r : ℕ) → ChooseAnswers m ps folds rule out r → ChooseWrites m ps folds rule out new
+      → Obeys (chooseCauses m ps folds rule (length out)) r (λ n. n) 0 (new ∷ []) (out ∷ []) (atStart (chosen rule ps folds) out ∷ [])
   pub curve : (file path values marks newValues newMarks : List ℕ) (r : Curved) → CurveAnswers file path values marks r → CurveDeclines file path values marks r → CurveValuesWrites file path values marks newValues → CurveMarksWrites file path values marks newMarks
       → Obeys (curveCauses file path values marks)
       r (λ n. cond (eqb n 13) (curved.Repeated (firstRepeat path)) (curved.Refused n)) curved.Written
@@ -149,6 +163,12 @@ module _ (file path values marks newValues newMarks : List ℕ) (v : CurveValues
   curve-lent : Lent (curveCauses file path values marks) (newValues ∷ newMarks ∷ []) (values ∷ marks ∷ []) (atStart (curveValues (familyOf file) path) values ∷ atStart (curveMarks (familyOf file) path) marks ∷ [])
   curve-lent = lent-too _ _ values newValues (newMarks ∷ []) (marks ∷ []) _ v (lent-one _ _ marks newMarks w)
 
+-- `choose`, and its names in C.
+
+choose-obeys : (m : ℕ) (ps folds : List Float) (rule : Rule) (out new : List ℕ) (r : ℕ) → ChooseAnswers m ps folds rule out r → ChooseWrites m ps folds rule out new
+    → Obeys (chooseCauses m ps folds rule (length out)) r (λ n. n) 0 (new ∷ []) (out ∷ []) (atStart (chosen rule ps folds) out ∷ [])
+choose-obeys m ps folds rule out new r h w = number-obeys (chooseCauses m ps folds rule (length out)) r _ _ _ h (lent-one _ _ out new w)
+
 -- The part that holds the regions.
 
 module _ (file : List ℕ) where
@@ -188,7 +208,7 @@ module _ (place fileAt : ℕ × ℕ) (part file : List ℕ) (h : RegionsGiven pl
   part-of-refused r = (h .bytes ∙ part-refused file r, h .part .block, omega (arith, h .part .place, start-refused file r))
 
 pub demand-one : DemandOne
-unfolding headerCauses familyCauses fileCauses parentsCauses causesWithRoom pathCauses inputCauses curveCauses cutCauses reduceCauses compareCauses checked checkedFields boundedFields curvedFields cuttingFields reducedFields comparedFields valueAt valueWith reducedCounts comparison checkedOf boundedOf reducedOf comparedOf curvedOf cutFoundOf
+unfolding headerCauses familyCauses fileCauses parentsCauses causesWithRoom pathCauses inputCauses curveCauses cutCauses reduceCauses compareCauses chooseCauses checked checkedFields boundedFields curvedFields cuttingFields reducedFields comparedFields valueAt valueWith reducedCounts comparison checkedOf boundedOf reducedOf comparedOf curvedOf cutFoundOf
 demand-one =
     record {
       first-cause = first-is;
@@ -196,12 +216,16 @@ demand-one =
       check-tries = λ file. refl;
       parents-tries = λ file out. refl;
       bound-tries = λ file selection out. refl;
+      choose-tries = λ m ps folds rule room. refl;
       curve-tries = λ file path values marks. refl;
       cut-tries = λ file path a b. refl;
       reduce-tries = λ file out. refl;
       same-tries = λ first second. refl;
       phf-check = λ file r h. made-obeys (fileCauses file) _ checkedFields r [] [] [] h (nothing-lent (fileCauses file));
       phf-bound = λ file selection taken new r h w. made-obeys (selectionCauses file selection taken) _ boundedFields r (new ∷ []) _ _ h (lent-one _ _ _ _ w);
+      phf-choose-at-most = λ m ps folds cut. choose-obeys m ps folds (AtMost cut);
+      phf-choose-between = λ m ps folds low high. choose-obeys m ps folds (Between low high);
+      phf-choose-volcano = λ m ps folds cut fold. choose-obeys m ps folds (Volcano cut fold);
       phf-curve = λ file path values marks newValues newMarks r h v w. path-obeys _ path [] curvedFields _ (λ n some. curve-refusal-fields path n) r _ _ _ h (curve-lent file path values marks newValues newMarks v w);
       phf-cut = λ file path a b r h. path-obeys _ path _ cuttingFields _ (cut-refusal-fields path) r [] [] [] h (nothing-lent _);
       phf-reduce = λ file out new r h w. made-obeys (reduceCauses file out) _ reducedFields r (new ∷ []) _ _ h (lent-one _ _ _ _ w);
@@ -210,6 +234,7 @@ demand-one =
       parents = λ file out new r h w. remade-obeys (parentsCauses file out) _ report checkedOf checked-remade r (new ∷ []) _ _ h (lent-one _ _ _ _ w);
       bound = λ file selection taken new r h w. remade-obeys (selectionCauses file selection taken) _ reportBound boundedOf bounded-remade r (new ∷ []) _ _ h (lent-one _ _ _ _ w);
       inside-totals = λ file selection out new r h w. remade-obeys (selectionCauses file selection out) _ reportBound boundedOf bounded-remade r (new ∷ []) _ _ h (lent-one _ _ _ _ w);
+      choose = choose-obeys;
       curve = λ file path values marks newValues newMarks r h d v w. path-obeys _ path [] curvedBy _ (curve-refusal path) r _ _ _ (curve-told _ path r h d) (curve-lent file path values marks newValues newMarks v w);
       cut = λ file path a b r h. path-obeys _ path _ cutFoundBy _ (cut-refusal path) r [] [] [] (cut-told _ path _ r h) (nothing-lent _);
       reduce = λ file out new r h w. remade-obeys (reduceCauses file out) _ reportReduced reducedOf reduced-remade r (new ∷ []) _ _ h (lent-one _ _ _ _ w);

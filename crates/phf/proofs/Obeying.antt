@@ -88,6 +88,11 @@ made-obeys cs result make r after before work h lent =
       done = λ none. (h ∙ ap make (answers cs none result), lent .1 none);
     }
 
+-- an answer that is the number alone
+pub number-obeys : (cs : List Cause) (r : ℕ) (after before work : List (List ℕ)) → r ≡ firstCause cs → Lent cs after before work
+    → Obeys cs r (λ n. n) 0 after before work
+number-obeys cs r after before work h lent = record { declined = λ some. (h, lent .0 some); done = λ none. (h ∙ none, lent .1 none) }
+
 -- an answer that can be made again of its report
 pub remade-obeys : {A : Type 0} (cs : List Cause) (result : List ℕ) (report : A → Report) (make : ℕ → List ℕ → A) → ((r : A) → r ≡ make (report r .number) (report r .values))
     → (r : A) (after before work : List (List ℕ)) → report r ≡ answer cs result → Lent cs after before work

@@ -1,4 +1,4 @@
-// The C interface: the calls of the three libraries under C names, and nothing else. include/phf.h is this file as C sees it.
+// The C interface: the calls of the libraries under C names, and nothing else. include/phf.h is this file as C sees it.
 // A slice is a pointer and a number of elements. An answer is a struct by value: the number of the first cause that holds,
 // 0 for none, then the values; a field that has no value is 0.
 use bounds::Bounded;
@@ -7,8 +7,11 @@ use bounds::CutFound;
 use reader::Checked;
 use reduction::Compared;
 use reduction::ReducedFile;
+use volcano::Rule;
 ghost use Rattle.bounds.specs.Calls.{TakenWrites, CurveValuesWrites, CurveMarksWrites};
 ghost use Rattle.reduction.specs.Calls.{ReduceWrites};
+ghost use Rattle.volcano.specs.Calls.{ChooseAnswers, ChooseWrites};
+ghost use Rattle.volcano.specs.declared.Rule.the-variants.{AtMost, Between, Volcano};
 ghost use Rattle.phf.specs.Calls.{PhfCheckAnswers, PhfRegionsAnswers, PhfRegionsPlaced, PhfBoundAnswers, PhfCurveAnswers, PhfCutAnswers, PhfReduceAnswers, PhfSameAnswers};
 
 #[repr(C)]
@@ -193,4 +196,52 @@ pub extern "C" fn phf_same(first: &[u8], second: &[u8]) -> PhfCompared
         Compared::Different => PhfCompared { number: 0, same: 0 },
         Compared::Refused(number) => PhfCompared { number, same: 0 },
     }
+}
+
+// The selection of the peptides whose p is at or under a cut: the number of the first cause that holds, 0 for none. C has no enum
+// with numbers in its cases, so each rule has a name of its own.
+#[no_mangle]
+pub extern "C" fn phf_choose_at_most(
+    m: u16,
+    p_values: &[f64],
+    folds: &[f64],
+    cut: f64,
+    out: &mut [u8],
+) -> u16
+    ensures { λ r. ⌜ ChooseAnswers m (now («p_values» .entry)) (now (folds .entry)) (AtMost cut) (now (out .entry)) r ⌝ }
+    ensures { λ _. ⌜ ChooseWrites m (now («p_values» .entry)) (now (folds .entry)) (AtMost cut) (now (out .entry)) (now (out .exit)) ⌝ }
+{
+    volcano::choose(m, p_values, folds, Rule::AtMost(cut), out)
+}
+
+// The same, for p from one cut to another, both included.
+#[no_mangle]
+pub extern "C" fn phf_choose_between(
+    m: u16,
+    p_values: &[f64],
+    folds: &[f64],
+    low: f64,
+    high: f64,
+    out: &mut [u8],
+) -> u16
+    ensures { λ r. ⌜ ChooseAnswers m (now («p_values» .entry)) (now (folds .entry)) (Between low high) (now (out .entry)) r ⌝ }
+    ensures { λ _. ⌜ ChooseWrites m (now («p_values» .entry)) (now (folds .entry)) (Between low high) (now (out .entry)) (now (out .exit)) ⌝ }
+{
+    volcano::choose(m, p_values, folds, Rule::Between(low, high), out)
+}
+
+// The same, for p at or under a cut with the log fold change at least `fold` or at most its negative.
+#[no_mangle]
+pub extern "C" fn phf_choose_volcano(
+    m: u16,
+    p_values: &[f64],
+    folds: &[f64],
+    cut: f64,
+    fold: f64,
+    out: &mut [u8],
+) -> u16
+    ensures { λ r. ⌜ ChooseAnswers m (now («p_values» .entry)) (now (folds .entry)) (Volcano cut fold) (now (out .entry)) r ⌝ }
+    ensures { λ _. ⌜ ChooseWrites m (now («p_values» .entry)) (now (folds .entry)) (Volcano cut fold) (now (out .entry)) (now (out .exit)) ⌝ }
+{
+    volcano::choose(m, p_values, folds, Rule::Volcano(cut, fold), out)
 }

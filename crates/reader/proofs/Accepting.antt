@@ -83,7 +83,7 @@ file-numbered s = omega arith
 
 pub record HeaderClear (s : List ℕ) : Type 0 where
   pub no1 : cause1 s ≡ false
-  pub no2 : cause2 (familyOf s) ≡ false
+  pub no2 : cause2 (familyOf s .peptides) ≡ false
   pub no3 : cause3 (familyOf s) ≡ false
   pub no4 : cause4 (familyOf s) ≡ false
   pub no5 : cause5 s ≡ false
@@ -154,8 +154,8 @@ module _ (s : List ℕ) where
       let fam = accepted-family h in
       let ordered = ordered-if-clear F (fam .no7) (fam .no8) in
       record {
-        peptides-some = peptides-counted F (head .no2) .0;
-        peptides-most = peptides-counted F (head .no2) .1;
+        peptides-some = peptides-counted (F .peptides) (head .no2) .0;
+        peptides-most = peptides-counted (F .peptides) (head .no2) .1;
         leaves-some = leaves-counted F (head .no3) .0;
         leaves-most = leaves-counted F (head .no3) .1;
         regions-most = regions-counted F (head .no4);

@@ -153,7 +153,7 @@ too-many n over fits =
     let three =
     header-3 s
     (from-marked s (omega (arith, file-length F)) (unfold fileOf mark in refl))
-    (from-peptides-counted (familyOf s) (omega (arith, peptides-read s)) (omega (arith, peptides-read s)))
+    (from-peptides-counted (familyOf s .peptides) (omega (arith, peptides-read s)) (omega (arith, peptides-read s)))
     (passes (cause3 (familyOf s)) (λ f. omega (arith, leaves-counted (familyOf s) f, leaves-read s)))
     in
     file-header s (λ z. omega (arith, three, z)) ∙ three

@@ -223,7 +223,7 @@ module _ (F : Family) (w : WellFormed F) where
       head =
           record {
             no1 = from-marked (fileOf F) (omega (arith, file-length F)) starts-with-mark;
-            no2 = rw read-back (from-peptides-counted F (w .peptides-some) (w .peptides-most));
+            no2 = rw read-back (from-peptides-counted (F .peptides) (w .peptides-some) (w .peptides-most));
             no3 = rw read-back (from-leaves-counted F (w .leaves-some) (w .leaves-most));
             no4 = rw read-back (from-regions-counted F (w .regions-most));
             no5 = from-laid-down (fileOf F) read-laid-down;

@@ -48,15 +48,16 @@ module _ (s : List ℕ) where
   unfolding cause1
   from-marked h e = or-neither _ _ (le-ltb (length s) 16 h) (rw e (not-fails (sameList mark mark) (same-refl mark)))
 
-module _ (F : Family) where
-  pub peptides-counted : cause2 F ≡ false → (1 ≤ F .peptides) × (F .peptides ≤ 4096)
+module _ (m : ℕ) where
+  pub peptides-counted : cause2 m ≡ false → (1 ≤ m) × (m ≤ 4096)
   unfolding cause2
-  peptides-counted h = (some-if _ (or-fails-l _ (ltb 4096 (F .peptides)) h), ltb-false 4096 _ (or-fails-r (eqb (F .peptides) 0) _ h))
+  peptides-counted h = (some-if _ (or-fails-l _ (ltb 4096 m) h), ltb-false 4096 _ (or-fails-r (eqb m 0) _ h))
 
-  pub from-peptides-counted : 1 ≤ F .peptides → F .peptides ≤ 4096 → cause2 F ≡ false
+  pub from-peptides-counted : 1 ≤ m → m ≤ 4096 → cause2 m ≡ false
   unfolding cause2
   from-peptides-counted a b = or-neither _ _ (zero-unless _ a) (le-ltb 4096 _ b)
 
+module _ (F : Family) where
   pub leaves-counted : cause3 F ≡ false → (1 ≤ leaves F) × (leaves F ≤ 4096)
   unfolding cause3
   leaves-counted h = (some-if _ (or-fails-l _ (ltb 4096 (leaves F)) h), ltb-false 4096 _ (or-fails-r (eqb (leaves F) 0) _ h))
@@ -223,17 +224,17 @@ module _ (s : List ℕ) where
   unfolding firstCause headerCauses
   header-1 h = rw h
 
-  pub header-2 : cause1 s ≡ false → cause2 (familyOf s) ≡ true → firstCause (headerCauses s) ≡ 2
+  pub header-2 : cause1 s ≡ false → cause2 (familyOf s .peptides) ≡ true → firstCause (headerCauses s) ≡ 2
   unfolding firstCause headerCauses
   header-2 h1 h = rw (h1, h)
 
-  pub header-3 : cause1 s ≡ false → cause2 (familyOf s) ≡ false → cause3 (familyOf s) ≡ true → firstCause (headerCauses s) ≡ 3
+  pub header-3 : cause1 s ≡ false → cause2 (familyOf s .peptides) ≡ false → cause3 (familyOf s) ≡ true → firstCause (headerCauses s) ≡ 3
   unfolding firstCause headerCauses
   header-3 h1 h2 h = rw (h1, h2, h)
 
   -- causes 1 to 4 do not hold
   pub header-5 :
-      cause1 s ≡ false → cause2 (familyOf s) ≡ false → cause3 (familyOf s) ≡ false
+      cause1 s ≡ false → cause2 (familyOf s .peptides) ≡ false → cause3 (familyOf s) ≡ false
       → firstCause (headerCauses s) ≡ cond (cause4 (familyOf s)) 4 (cond (cause5 s) 5 0)
   unfolding firstCause headerCauses
   header-5 h1 h2 h3 = rw (h1, h2, h3)

@@ -15,8 +15,8 @@ unfoldable pub cause1 : List ℕ → Bool
 cause1 s = ltb (length s) 16 || not (sameList (take 4 s) mark)
 
 -- m is 0 or over 4,096
-unfoldable pub cause2 : Family → Bool
-cause2 F = eqb (F .peptides) 0 || ltb 4096 (F .peptides)
+unfoldable pub cause2 : ℕ → Bool
+cause2 m = eqb m 0 || ltb 4096 m
 
 -- N is 0 or over 4,096
 unfoldable pub cause3 : Family → Bool
@@ -74,7 +74,7 @@ unfoldable pub headerCauses : List ℕ → List Cause
 headerCauses s =
     let F : Family = familyOf s in
     record { number = 1; holds = cause1 s }
-    ∷ record { number = 2; holds = cause2 F }
+    ∷ record { number = 2; holds = cause2 (F .peptides) }
     ∷ record { number = 3; holds = cause3 F }
     ∷ record { number = 4; holds = cause4 F }
     ∷ record { number = 5; holds = cause5 s }

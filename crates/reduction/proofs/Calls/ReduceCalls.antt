@@ -63,7 +63,7 @@ module _ (s P : List ℕ) where
 -- An accepted file is not long, and its counts are not large.
 module _ (s : List ℕ) (a : Accepted s) where
   pub few-peptides : familyOf s .peptides ≤ 4096
-  few-peptides = peptides-counted (familyOf s) (accepted-header s a .no2) .1
+  few-peptides = peptides-counted (familyOf s .peptides) (accepted-header s a .no2) .1
 
   pub accepted-most : length s ≤ 57354
   accepted-most =

@@ -15,8 +15,8 @@ use Rattle.reader.proofs.causes.header_cause.Tie as tie
 no1 : (c : tie.Else1) → cause1 (now (c .before .before .before .args .file)) ≡ false
 no1 c = sym (c .before .lacks-mark .ensures) ∙ c .if1 .left
 
-no2 : (c : tie.Else3) → cause2 (familyOf (now (c .before .before .before .before .before .before .before .before .args .file))) ≡ false
-no2 c = let s = now (c .before .before .before .before .before .before .before .before .args .file) in from-peptides-counted (familyOf s) (omega (arith, peptides-read s)) (omega (arith, peptides-read s))
+no2 : (c : tie.Else3) → cause2 (familyOf (now (c .before .before .before .before .before .before .before .before .args .file)) .peptides) ≡ false
+no2 c = let s = now (c .before .before .before .before .before .before .before .before .args .file) in from-peptides-counted (familyOf s .peptides) (omega (arith, peptides-read s)) (omega (arith, peptides-read s))
 
 no3 : (c : tie.Else5) → cause3 (familyOf (now (c .before .before .before .before .before .before .before .before .before .before .args .file))) ≡ false
 no3 c =
@@ -44,12 +44,12 @@ number-at-requires-3 c κs = search needs
 returns-2 : tie.Need-returns-2
 returns-2 c =
     let s = now (c .before .before .before .before .before .before .before .args .file) in
-    sym (header-2 s (no1 (c .before .before .before .before)) (passes _ (λ f. omega (arith, peptides-counted (familyOf s) f, peptides-read s))))
+    sym (header-2 s (no1 (c .before .before .before .before)) (passes _ (λ f. omega (arith, peptides-counted (familyOf s .peptides) f, peptides-read s))))
 
 returns-3 : tie.Need-returns-3
 returns-3 c =
     let s = now (c .before .before .before .before .before .before .before .before .args .file) in
-    sym (header-2 s (no1 (c .before .before .before .before .before)) (passes _ (λ f. omega (arith, peptides-counted (familyOf s) f, peptides-read s))))
+    sym (header-2 s (no1 (c .before .before .before .before .before)) (passes _ (λ f. omega (arith, peptides-counted (familyOf s .peptides) f, peptides-read s))))
 
 returns-4 : tie.Need-returns-4
 returns-4 c =

@@ -1,0 +1,92 @@
+-- Causes 2 and 17 to 19: the first that holds, and what is known where none does.
+use Prim.Native.Nat.{ℕ, _<_, _≤_}
+use native.Mathlib.Omega.{arith}
+use mathlib.Core.Bool.{Bool, true, false, not, cond, _||_}
+use mathlib.Core.List.{List}
+use mathlib.Core.Path.{_≡_}
+use lib.ListN.{length, getD}
+use lib.Dec.{eqb}
+use lib.Ieee.{Float, nan}
+use borrow.Author.Tests.{eqb-true, ltb-false, not-false}
+use Rattle.reader.specs.Causes.{firstCause, cause2}
+use Rattle.reader.specs.Calls.{short}
+use Rattle.reader.proofs.Bools.{or-fails-l, or-fails-r}
+use Rattle.reader.proofs.Below.{none-at}
+use Rattle.reader.proofs.First.{head-clear}
+use Rattle.reader.proofs.Judged.{peptides-counted}
+use Rattle.volcano.specs.Rules.{passes, rowAt, offScale, notFinite, somePOff, someFoldOff, cause17, cause18, cause19}
+use Rattle.volcano.specs.Calls.{chooseCauses}
+use Rattle.volcano.specs.declared.Rule.{Rule}
+
+-- the p-value, and the fold, at a place is refused
+abbrev pub pOff : List Float → ℕ → Bool
+pOff ps i = offScale (getD ps i nan)
+
+abbrev pub foldOff : List Float → ℕ → Bool
+foldOff folds i = notFinite (getD folds i nan)
+
+-- the byte of a test, and that of row i
+abbrev pub byteOf : Bool → ℕ
+byteOf b = cond b 1 0
+
+abbrev pub bit : Rule → List Float → List Float → ℕ → ℕ
+bit rule ps folds i = byteOf (passes rule (rowAt ps folds i))
+
+-- what is known of a call for which no cause holds
+pub record Clear (m : ℕ) (ps folds : List Float) (rule : Rule) (room : ℕ) : Type 0 where
+  pub some : 1 ≤ m
+  pub most : m ≤ 4096
+  pub p-rows : length ps ≡ m
+  pub fold-rows : length folds ≡ m
+  pub places : m ≤ room
+  pub rows-clear : cause18 ps folds ≡ false
+  pub rule-clear : cause19 rule ≡ false
+
+module _ (m : ℕ) (ps folds : List Float) (rule : Rule) (room : ℕ) where
+  -- The first cause, in the order in which they are tried.
+
+  pub number-2 : cause2 m ≡ true → firstCause (chooseCauses m ps folds rule room) ≡ 2
+  unfolding firstCause chooseCauses
+  number-2 h = rw h
+
+  pub number-17 : cause2 m ≡ false → cause17 m ps folds room ≡ true → firstCause (chooseCauses m ps folds rule room) ≡ 17
+  unfolding firstCause chooseCauses
+  number-17 h k = rw (h, k)
+
+  pub number-18 : cause2 m ≡ false → cause17 m ps folds room ≡ false → cause18 ps folds ≡ true → firstCause (chooseCauses m ps folds rule room) ≡ 18
+  unfolding firstCause chooseCauses
+  number-18 h k l = rw (h, k, l)
+
+  pub number-19 : cause2 m ≡ false → cause17 m ps folds room ≡ false → cause18 ps folds ≡ false
+      → firstCause (chooseCauses m ps folds rule room) ≡ cond (cause19 rule) 19 0
+  unfolding firstCause chooseCauses
+  number-19 h k l = rw (h, k, l)
+
+  pub none-holds : firstCause (chooseCauses m ps folds rule room) ≡ 0 → Clear m ps folds rule room
+  unfolding chooseCauses cause17 short
+  none-holds h =
+      let a = head-clear _ _ (omega arith) h in
+      let b = head-clear _ _ (omega arith) (a .1) in
+      let c = head-clear _ _ (omega arith) (b .1) in
+      let d = head-clear _ _ (omega arith) (c .1) in
+      let counted = peptides-counted m (a .0) in
+      let others = or-fails-r (not (eqb (length ps) m)) (not (eqb (length folds) m) || short m room) (b .0) in
+      record {
+        some = counted .0;
+        most = counted .1;
+        p-rows = eqb-true (length ps) m (not-false _ (or-fails-l _ (not (eqb (length folds) m) || short m room) (b .0)));
+        fold-rows = eqb-true (length folds) m (not-false _ (or-fails-l _ (short m room) others));
+        places = ltb-false room m (or-fails-r (not (eqb (length folds) m)) _ others);
+        rows-clear = c .0;
+        rule-clear = d .0;
+      }
+
+-- Where cause 18 does not hold, no row is refused.
+module _ (ps folds : List Float) (clear : cause18 ps folds ≡ false) where
+  pub p-at : (i : ℕ) → i < length ps → offScale (rowAt ps folds i .p) ≡ false
+  unfolding cause18 somePOff rowAt
+  p-at i l = none-at (pOff ps) (length ps) i (or-fails-l (somePOff ps) (someFoldOff folds) clear) l
+
+  pub fold-at : (i : ℕ) → i < length folds → notFinite (rowAt ps folds i .fold) ≡ false
+  unfolding cause18 someFoldOff rowAt
+  fold-at i l = none-at (foldOff folds) (length folds) i (or-fails-r (somePOff ps) (someFoldOff folds) clear) l

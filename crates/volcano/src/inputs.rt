@@ -1,0 +1,102 @@
+// Causes 2 and 17 to 19: the number of peptides, the slices, the rows and the rule.
+use crate::Rule;
+ghost use mathlib.Core.Path.{_≡_};
+ghost use Rattle.reader.specs.Causes.{cause2, firstCause};
+ghost use Rattle.volcano.specs.Rules.{offScale, notFinite, somePOff, someFoldOff, cause17, cause18, cause19};
+ghost use Rattle.volcano.specs.Calls.{chooseCauses};
+
+// m is 0 or over 4,096.
+fn bad_count(m: u16) -> bool
+    ensures { λ r. ⌜ r ≡ cause2 m ⌝ }
+{
+    m == 0 || 4096 < m
+}
+
+// The two slices not of length m, or the output under m.
+fn wrong_lengths(m: u16, p_values: &[f64], folds: &[f64], room: usize) -> bool
+    ensures { λ r. ⌜ r ≡ cause17 m (now («p_values» .entry)) (now (folds .entry)) room ⌝ }
+{
+    let rows = m as usize;
+    if p_values.len() != rows {
+        return true;
+    }
+    if folds.len() != rows {
+        return true;
+    }
+    room < rows
+}
+
+// Not a number, or outside 0 to 1.
+fn off_scale(p: f64) -> bool
+    ensures { λ r. ⌜ r ≡ offScale p ⌝ }
+{
+    p != p || (p < 0.0 || 1.0 < p)
+}
+
+// An infinity, or not a number. An infinity has no literal.
+fn not_finite(x: f64) -> bool
+    ensures { λ r. ⌜ r ≡ notFinite x ⌝ }
+{
+    let top = 1.0 / 0.0;
+    !(-top < x) || !(x < top)
+}
+
+fn some_p_off(p_values: &[f64]) -> bool
+    ensures { λ r. ⌜ r ≡ somePOff (now («p_values» .entry)) ⌝ }
+{
+    let mut i = 0;
+    while i < p_values.len() {
+        if off_scale(p_values[i]) {
+            return true;
+        }
+        i += 1;
+    }
+    false
+}
+
+fn some_fold_off(folds: &[f64]) -> bool
+    ensures { λ r. ⌜ r ≡ someFoldOff (now (folds .entry)) ⌝ }
+{
+    let mut i = 0;
+    while i < folds.len() {
+        if not_finite(folds[i]) {
+            return true;
+        }
+        i += 1;
+    }
+    false
+}
+
+// A p that is not a number or outside 0 to 1, or a fold not finite.
+fn bad_rows(p_values: &[f64], folds: &[f64]) -> bool
+    ensures { λ r. ⌜ r ≡ cause18 (now («p_values» .entry)) (now (folds .entry)) ⌝ }
+{
+    some_p_off(p_values) || some_fold_off(folds)
+}
+
+// A cut or f that is not a number, or f under 0.
+fn bad_rule(rule: Rule) -> bool
+    ensures { λ r. ⌜ r ≡ cause19 rule ⌝ }
+{
+    match rule {
+        Rule::AtMost(cut) => cut != cut,
+        Rule::Between(low, high) => low != low || high != high,
+        Rule::Volcano(cut, fold) => cut != cut || (fold != fold || fold < 0.0),
+    }
+}
+
+// The first cause of a choice with an output of so many places, or 0.
+pub(crate) fn choose_cause(m: u16, p_values: &[f64], folds: &[f64], rule: Rule, room: usize) -> u16
+    ensures { λ r. ⌜ r ≡ firstCause (chooseCauses m (now («p_values» .entry)) (now (folds .entry)) rule room) ⌝ }
+{
+    if bad_count(m) {
+        return 2;
+    }
+    if wrong_lengths(m, p_values, folds, room) {
+        return 17;
+    }
+    if bad_rows(p_values, folds) {
+        return 18;
+    }
+    if bad_rule(rule) { 19 } else { 0 }
+}
