@@ -5,16 +5,40 @@ use std::hint::black_box;
 const AROUND: usize = 40;
 
 /// What a buffer holds, and the sentinel around it.
-pub trait Element: Copy + PartialEq {
+pub trait Element: Copy {
     const SENTINEL: Self;
+
+    fn same(self, other: Self) -> bool;
 }
 
 impl Element for u8 {
     const SENTINEL: u8 = 0xA5;
+
+    fn same(self, other: u8) -> bool {
+        self == other
+    }
 }
 
 impl Element for u16 {
     const SENTINEL: u16 = 0xABCD;
+
+    fn same(self, other: u16) -> bool {
+        self == other
+    }
+}
+
+impl Element for f64 {
+    // not a number, with bits of its own behind that: no call would write it
+    const SENTINEL: f64 = f64::from_bits(0x7FF8_A5A5_A5A5_A5A5);
+
+    /// By the bits: the two zeros are not the same, and what is not a number is the same as itself.
+    fn same(self, other: f64) -> bool {
+        self.to_bits() == other.to_bits()
+    }
+}
+
+fn all_same<T: Element>(one: &[T], other: &[T]) -> bool {
+    one.len() == other.len() && one.iter().zip(other).all(|(x, y)| x.same(*y))
 }
 
 struct Lent<T> {
@@ -42,7 +66,7 @@ impl<T: Element> Lent<T> {
         let before = &self.all[..AROUND];
         let after = &self.all[end..];
         assert!(
-            before.iter().chain(after).all(|x| *x == T::SENTINEL),
+            before.iter().chain(after).all(|x| x.same(T::SENTINEL)),
             "a place outside of a lent buffer was written"
         );
         &self.all[AROUND..end]
@@ -53,7 +77,7 @@ impl<T: Element> Lent<T> {
 pub fn reading<T: Element, A>(input: &[T], call: impl FnOnce(&[T]) -> A) -> A {
     let mut lent = Lent::new(input);
     let answer = call(lent.contents());
-    assert!(lent.returned() == input, "an input was written");
+    assert!(all_same(lent.returned(), input), "an input was written");
     answer
 }
 

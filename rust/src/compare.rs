@@ -166,3 +166,21 @@ pub fn same(first: &[u8], second: &[u8]) -> (u16, u16) {
     }
     (answer.number, answer.same)
 }
+
+/// The choice into `room` places; the number.
+pub fn choose(m: u16, p_values: &[f64], folds: &[f64], rule: reference::Rule, room: usize) -> u16 {
+    let before = before_u8(room);
+    let mut out = before.clone();
+    let answer = guarded::choose(m, p_values, folds, rule, &mut out);
+    match reference::choose(m, p_values, folds, rule, room) {
+        Ok(bytes) => {
+            assert_eq!(answer, 0);
+            assert_eq!(out, with_front(&bytes, &before));
+        }
+        Err(number) => {
+            assert_eq!(answer, number);
+            assert_eq!(out, before);
+        }
+    }
+    answer
+}

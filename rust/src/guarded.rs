@@ -4,6 +4,7 @@
 use crate::buffers::{reading, writing};
 use crate::families::has_empty_leaf;
 use crate::phf::{self, Bounded, Checked, Compared, Curved, Cutting, Part, Reduced};
+use crate::reference::Rule;
 
 pub fn check(file: &[u8]) -> Checked {
     reading(file, phf::check)
@@ -65,5 +66,18 @@ pub fn reduced(file: &[u8]) -> Vec<u8> {
 pub fn same(first: &[u8], second: &[u8]) -> Compared {
     reading(first, |first| {
         reading(second, |second| phf::same(first, second))
+    })
+}
+
+/// The one of the three choices that the rule is of.
+pub fn choose(m: u16, p_values: &[f64], folds: &[f64], rule: Rule, out: &mut [u8]) -> u16 {
+    reading(p_values, |p| {
+        reading(folds, |folds| {
+            writing(out, |out| match rule {
+                Rule::AtMost(cut) => phf::choose_at_most(m, p, folds, cut, out),
+                Rule::Between(low, high) => phf::choose_between(m, p, folds, low, high, out),
+                Rule::Volcano(cut, fold) => phf::choose_volcano(m, p, folds, cut, fold, out),
+            })
+        })
     })
 }

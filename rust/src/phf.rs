@@ -89,6 +89,38 @@ extern "C" {
         second: *const u8,
         second_len: usize,
     ) -> Compared;
+    fn phf_choose_at_most(
+        m: u16,
+        p: *const f64,
+        p_len: usize,
+        folds: *const f64,
+        folds_len: usize,
+        cut: f64,
+        out: *mut u8,
+        out_len: usize,
+    ) -> u16;
+    fn phf_choose_between(
+        m: u16,
+        p: *const f64,
+        p_len: usize,
+        folds: *const f64,
+        folds_len: usize,
+        low: f64,
+        high: f64,
+        out: *mut u8,
+        out_len: usize,
+    ) -> u16;
+    fn phf_choose_volcano(
+        m: u16,
+        p: *const f64,
+        p_len: usize,
+        folds: *const f64,
+        folds_len: usize,
+        cut: f64,
+        fold: f64,
+        out: *mut u8,
+        out_len: usize,
+    ) -> u16;
 }
 
 // SAFETY, of each call: a slice is a pointer and a number of elements that are there, and a `&mut` slice overlaps no
@@ -140,4 +172,65 @@ pub fn reduce(file: &[u8], out: &mut [u8]) -> Reduced {
 
 pub fn same(first: &[u8], second: &[u8]) -> Compared {
     unsafe { phf_same(first.as_ptr(), first.len(), second.as_ptr(), second.len()) }
+}
+
+pub fn choose_at_most(m: u16, p_values: &[f64], folds: &[f64], cut: f64, out: &mut [u8]) -> u16 {
+    unsafe {
+        phf_choose_at_most(
+            m,
+            p_values.as_ptr(),
+            p_values.len(),
+            folds.as_ptr(),
+            folds.len(),
+            cut,
+            out.as_mut_ptr(),
+            out.len(),
+        )
+    }
+}
+
+pub fn choose_between(
+    m: u16,
+    p_values: &[f64],
+    folds: &[f64],
+    low: f64,
+    high: f64,
+    out: &mut [u8],
+) -> u16 {
+    unsafe {
+        phf_choose_between(
+            m,
+            p_values.as_ptr(),
+            p_values.len(),
+            folds.as_ptr(),
+            folds.len(),
+            low,
+            high,
+            out.as_mut_ptr(),
+            out.len(),
+        )
+    }
+}
+
+pub fn choose_volcano(
+    m: u16,
+    p_values: &[f64],
+    folds: &[f64],
+    cut: f64,
+    fold: f64,
+    out: &mut [u8],
+) -> u16 {
+    unsafe {
+        phf_choose_volcano(
+            m,
+            p_values.as_ptr(),
+            p_values.len(),
+            folds.as_ptr(),
+            folds.len(),
+            cut,
+            fold,
+            out.as_mut_ptr(),
+            out.len(),
+        )
+    }
 }

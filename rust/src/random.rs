@@ -27,6 +27,11 @@ impl Random {
         least + self.below(most - least + 1)
     }
 
+    /// A number from 0 to 1, both included.
+    pub fn fraction(&mut self) -> f64 {
+        self.between(0, 1 << 53) as f64 / (1u64 << 53) as f64
+    }
+
     /// True in `part` of `whole` calls.
     pub fn chance(&mut self, part: usize, whole: usize) -> bool {
         self.below(whole) < part

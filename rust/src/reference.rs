@@ -510,3 +510,76 @@ fn with_leaves(m: usize, pieces: &[Piece]) -> Family {
         regions,
     }
 }
+
+// The choice of peptides by their rows: causes 2 and 17 to 19.
+
+/// Which rows pass.
+#[derive(Clone, Copy, Debug)]
+pub enum Rule {
+    /// p at or under the cut.
+    AtMost(f64),
+    /// p from the first cut to the second, both included.
+    Between(f64, f64),
+    /// p at or under the cut, and the fold outside a band: at least f, or at most -f.
+    Volcano(f64, f64),
+}
+
+/// The places of 1 and of infinity.
+const ONE: i64 = 0x3FF0_0000_0000_0000;
+const INFINITY: i64 = 0x7FF0_0000_0000_0000;
+
+/// The place of a number in the order of all of them, counted from zero; none for what is not a number. It is read off the
+/// bits, sign and magnitude, so that no comparison of the processor has a part in it. Both zeros are at 0, and -x is as far
+/// below them as x is above.
+fn place(x: f64) -> Option<i64> {
+    let bits = x.to_bits();
+    let magnitude = (bits & (u64::MAX >> 1)) as i64;
+    let negative = bits >> 63 == 1;
+    (magnitude <= INFINITY).then_some(if negative { -magnitude } else { magnitude })
+}
+
+/// The places of numbers that are all from one place to another.
+fn places(numbers: &[f64], least: i64, most: i64) -> Option<Vec<i64>> {
+    numbers
+        .iter()
+        .map(|x| place(*x).filter(|at| least <= *at && *at <= most))
+        .collect()
+}
+
+/// Whether a row passes, by the places of its numbers; nothing if a number of the rule is none, or f is under 0.
+fn passes(rule: Rule, p: i64, fold: i64) -> Option<bool> {
+    match rule {
+        Rule::AtMost(cut) => Some(p <= place(cut)?),
+        Rule::Between(low, high) => {
+            let (low, high) = (place(low)?, place(high)?);
+            Some(low <= p && p <= high)
+        }
+        Rule::Volcano(cut, f) => {
+            let (cut, f) = (place(cut)?, place(f)?);
+            (f >= 0).then_some(p <= cut && (fold >= f || fold <= -f))
+        }
+    }
+}
+
+/// The m bytes.
+pub fn choose(
+    m: u16,
+    p_values: &[f64],
+    folds: &[f64],
+    rule: Rule,
+    room: usize,
+) -> Result<Vec<u8>, u16> {
+    let rows = m as usize;
+    if rows == 0 || rows > 4096 {
+        return Err(2);
+    }
+    if p_values.len() != rows || folds.len() != rows || room < rows {
+        return Err(17);
+    }
+    let p_places = places(p_values, 0, ONE).ok_or(18u16)?;
+    let fold_places = places(folds, -INFINITY + 1, INFINITY - 1).ok_or(18u16)?;
+    let rows = p_places.iter().zip(&fold_places);
+    rows.map(|(p, fold)| passes(rule, *p, *fold).map(u8::from))
+        .collect::<Option<Vec<u8>>>()
+        .ok_or(19)
+}

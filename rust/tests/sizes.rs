@@ -7,7 +7,7 @@ use phf_tests::families::{
 };
 use phf_tests::guarded;
 use phf_tests::random::{cases, Random};
-use phf_tests::reference::{file_of, Family, Region};
+use phf_tests::reference::{file_of, Family, Region, Rule};
 
 /// Every call on one family, with outputs of just the size and longer ones.
 fn all_calls(random: &mut Random, family: &Family) {
@@ -155,6 +155,21 @@ fn calls_on_half_a_megabyte(file: &[u8], path: &[u16]) {
         assert_eq!(guarded::reduce(file, &mut out).number, 0)
     });
     on_half_a_megabyte("phf_same", || assert_eq!(guarded::same(file, file).same, 1));
+    let (p_values, folds) = ([0.05; 4096], [-2.0; 4096]);
+    for (name, rule) in [
+        ("phf_choose_at_most", Rule::AtMost(0.05)),
+        ("phf_choose_between", Rule::Between(0.05, 0.1)),
+        ("phf_choose_volcano", Rule::Volcano(0.05, 2.0)),
+    ] {
+        let mut selection = [0; 4096];
+        on_half_a_megabyte(name, || {
+            assert_eq!(
+                guarded::choose(4096, &p_values, &folds, rule, &mut selection),
+                0
+            )
+        });
+        assert_eq!(selection, [1; 4096]);
+    }
 }
 
 /// The header promises that 512 KB of stack are enough; Rust's own thread takes a little of them here. What a call needs

@@ -1,6 +1,6 @@
 -- The order of the numbers of IEEE 754, for the comparisons that rules and causes are written with.
 --   not-itself         only what is not a number differs from itself
---   finite-is          what lies between the two infinities is finite
+--   finite-is          what is a number and none of the two infinities is finite
 --   none-between       no number lies from one number to a smaller one
 --   zero-number, zero-not-under   a zero, of either sign, is a number, and not under 0
 --   zero-first         a p-value that is not refused is at least either zero
@@ -28,8 +28,8 @@ not-itself (inf false) = refl
 not-itself (fin true m e) = rw (eq-eqb (m * up e * down e) (m * up e * down e) refl)
 not-itself (fin false m e) = rw (eq-eqb (m * up e * down e) (m * up e * down e) refl)
 
-pub finite-is : (x : Float) → not (lt (neg (inf false)) x) || not (lt x (inf false)) ≡ notFinite x
-unfolding lt neg notFinite
+pub finite-is : (x : Float) → isNan x || (eq x (inf false) || eq x (neg (inf false))) ≡ notFinite x
+unfolding isNan eq neg notFinite
 finite-is nan = refl
 finite-is (inf true) = refl
 finite-is (inf false) = refl

@@ -1,5 +1,6 @@
 -- Causes 2 and 17 to 19: the first that holds, and what is known where none does.
-use Prim.Native.Nat.{ℕ, _<_, _≤_}
+use Prim.Native.Nat.{ℕ, _+_, _<_, _≤_}
+use native.Mathlib.Numerals.{add-one}
 use native.Mathlib.Omega.{arith}
 use mathlib.Core.Bool.{Bool, true, false, not, cond, _||_}
 use mathlib.Core.List.{List}
@@ -10,6 +11,7 @@ use lib.Ieee.{Float, nan}
 use borrow.Author.Tests.{eqb-true, ltb-false, not-false}
 use Rattle.reader.specs.Causes.{firstCause, cause2}
 use Rattle.reader.specs.Calls.{short}
+use Rattle.reader.specs.Lists.{someBelow}
 use Rattle.reader.proofs.Bools.{or-fails-l, or-fails-r}
 use Rattle.reader.proofs.Below.{none-at}
 use Rattle.reader.proofs.First.{head-clear}
@@ -24,6 +26,11 @@ pOff ps i = offScale (getD ps i nan)
 
 abbrev pub foldOff : List Float → ℕ → Bool
 foldOff folds i = notFinite (getD folds i nan)
+
+-- a loop that knows whether one of the first n is refused, after one more
+pub some-more : (refused : ℕ → Bool) (n : ℕ) (before here : Bool) → before ≡ someBelow n refused → here ≡ refused n → before || here ≡ someBelow (n + 1) refused
+unfolding someBelow
+some-more refused n before here h k = rw (h, k, add-one n)
 
 -- the byte of a test, and that of row i
 abbrev pub byteOf : Bool → ℕ

@@ -1,6 +1,7 @@
 // Causes 2 and 17 to 19: the number of peptides, the slices, the rows and the rule.
 use crate::Rule;
 ghost use mathlib.Core.Path.{_≡_};
+ghost use lib.Ieee.{isNan};
 ghost use Rattle.reader.specs.Causes.{cause2, firstCause};
 ghost use Rattle.volcano.specs.Rules.{offScale, notFinite, somePOff, someFoldOff, cause17, cause18, cause19};
 ghost use Rattle.volcano.specs.Calls.{chooseCauses};
@@ -26,45 +27,51 @@ fn wrong_lengths(m: u16, p_values: &[f64], folds: &[f64], room: usize) -> bool
     room < rows
 }
 
+// Only what is not a number differs from itself.
+fn no_number(x: f64) -> bool
+    ensures { λ r. ⌜ r ≡ isNan x ⌝ }
+{
+    x != x
+}
+
 // Not a number, or outside 0 to 1.
 fn off_scale(p: f64) -> bool
     ensures { λ r. ⌜ r ≡ offScale p ⌝ }
 {
-    p != p || (p < 0.0 || 1.0 < p)
+    no_number(p) || (p < 0.0 || 1.0 < p)
 }
 
-// An infinity, or not a number. An infinity has no literal.
+// Not a number, or an infinity, for which there is no literal.
 fn not_finite(x: f64) -> bool
     ensures { λ r. ⌜ r ≡ notFinite x ⌝ }
 {
     let top = 1.0 / 0.0;
-    !(-top < x) || !(x < top)
+    no_number(x) || (x == top || x == -top)
 }
 
+// This loop and the next have no way out: several rows are then judged at once.
 fn some_p_off(p_values: &[f64]) -> bool
     ensures { λ r. ⌜ r ≡ somePOff (now («p_values» .entry)) ⌝ }
 {
+    let mut off = false;
     let mut i = 0;
     while i < p_values.len() {
-        if off_scale(p_values[i]) {
-            return true;
-        }
+        off |= off_scale(p_values[i]);
         i += 1;
     }
-    false
+    off
 }
 
 fn some_fold_off(folds: &[f64]) -> bool
     ensures { λ r. ⌜ r ≡ someFoldOff (now (folds .entry)) ⌝ }
 {
+    let mut off = false;
     let mut i = 0;
     while i < folds.len() {
-        if not_finite(folds[i]) {
-            return true;
-        }
+        off |= not_finite(folds[i]);
         i += 1;
     }
-    false
+    off
 }
 
 // A p that is not a number or outside 0 to 1, or a fold not finite.
@@ -79,9 +86,9 @@ fn bad_rule(rule: Rule) -> bool
     ensures { λ r. ⌜ r ≡ cause19 rule ⌝ }
 {
     match rule {
-        Rule::AtMost(cut) => cut != cut,
-        Rule::Between(low, high) => low != low || high != high,
-        Rule::Volcano(cut, fold) => cut != cut || (fold != fold || fold < 0.0),
+        Rule::AtMost(cut) => no_number(cut),
+        Rule::Between(low, high) => no_number(low) || no_number(high),
+        Rule::Volcano(cut, fold) => no_number(cut) || (no_number(fold) || fold < 0.0),
     }
 }
 

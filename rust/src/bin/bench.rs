@@ -6,7 +6,7 @@ use phf_tests::families::{
     towers, Bounds,
 };
 use phf_tests::random::Random;
-use phf_tests::reference::{check, file_of, Family, Region};
+use phf_tests::reference::{check, file_of, Family, Region, Rule};
 use phf_tests::{fast, phf};
 use std::hint::black_box;
 use std::time::{Duration, Instant};
@@ -470,9 +470,95 @@ fn growth_table() {
     }
 }
 
+/// The rows that peptides are chosen by.
+struct Rows {
+    p_values: Vec<f64>,
+    folds: Vec<f64>,
+}
+
+impl Rows {
+    /// p anywhere from 0 to 1 and folds from -4 to 4, so that no row tells what becomes of the next.
+    fn new(m: usize) -> Rows {
+        let random = &mut Random::new(5);
+        Rows {
+            p_values: (0..m).map(|_| random.fraction()).collect(),
+            folds: (0..m).map(|_| 8.0 * random.fraction() - 4.0).collect(),
+        }
+    }
+}
+
+type Choose = fn(&Rows, &mut [u8]) -> u16;
+
+/// A choice of the library and its like in Rust.
+struct Choice {
+    name: &'static str,
+    library: Choose,
+    rust: Choose,
+}
+
+const CHOICES: [Choice; 3] = [
+    Choice {
+        name: "p at most 0.05",
+        library: |r, out| phf::choose_at_most(4096, &r.p_values, &r.folds, 0.05, out),
+        rust: |r, out| fast::choose(4096, &r.p_values, &r.folds, Rule::AtMost(0.05), out),
+    },
+    Choice {
+        name: "p from 0.25 to 0.75",
+        library: |r, out| phf::choose_between(4096, &r.p_values, &r.folds, 0.25, 0.75, out),
+        rust: |r, out| fast::choose(4096, &r.p_values, &r.folds, Rule::Between(0.25, 0.75), out),
+    },
+    Choice {
+        name: "p at most 0.5, fold at least 1 or at most −1",
+        library: |r, out| phf::choose_volcano(4096, &r.p_values, &r.folds, 0.5, 1.0, out),
+        rust: |r, out| fast::choose(4096, &r.p_values, &r.folds, Rule::Volcano(0.5, 1.0), out),
+    },
+];
+
+/// Both choose the same of these rows; how many.
+fn agree_on(choice: &Choice, rows: &Rows) -> usize {
+    // nothing that a choice writes, and longer than it needs
+    let (mut one, mut other) = (vec![9; 5000], vec![9; 5000]);
+    let number = (choice.library)(rows, &mut one);
+    assert_eq!(number, (choice.rust)(rows, &mut other));
+    assert_eq!(number, 0);
+    assert_eq!(one, other);
+    one.iter().filter(|byte| **byte == 1).count()
+}
+
+fn selections_table() -> bool {
+    println!("| rule | m | selected | library µs | Rust µs | ratio |");
+    println!("|---|---|---|---|---|---|");
+    let rows = Rows::new(4096);
+    let mut all_met = true;
+    for choice in &CHOICES {
+        let selected = agree_on(choice, &rows);
+        let (mut one, mut other) = (vec![0; 4096], vec![0; 4096]);
+        let found = measure(&mut [
+            &mut || {
+                black_box((choice.library)(black_box(&rows), &mut one));
+            },
+            &mut || {
+                black_box((choice.rust)(black_box(&rows), &mut other));
+            },
+        ]);
+        let ratio = found[0] / found[1];
+        all_met &= ratio <= 1.5;
+        println!(
+            "| {} | 4096 | {selected} | {} | {} | {ratio:.2}{} |",
+            choice.name,
+            micro(found[0]),
+            micro(found[1]),
+            if ratio <= 1.5 { "" } else { " over 1.5" }
+        );
+    }
+    all_met
+}
+
 fn main() {
     println!("### Calls\n");
-    let met = calls_table();
+    let calls_met = calls_table();
+    println!("\n### Selections\n");
+    let met = selections_table() && calls_met;
     println!("\n### The experiment of the source\n");
     source_table();
     println!("\n### Hostile files\n");

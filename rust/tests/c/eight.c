@@ -1,8 +1,10 @@
 /*
  * The eight-peptide family from C: every call, what it writes, and every number by its name. The expected values are those
- * of the scope document. Then a family with leaves without a peptide, whose values are derived beside it.
+ * of the scope document. Then a family with leaves without a peptide, and peptides chosen by their rows, whose values are
+ * derived beside them.
  * Compiled as C99 and as C++11. Prints `ok`, or the first line that does not hold.
  */
+#include <math.h>
 #include <stdio.h>
 #include <string.h>
 
@@ -201,6 +203,73 @@ static void reduce_and_same_unmeasured(void)
     HOLDS(compared.number == 0 && compared.same == 0);
 }
 
+/* The rows of the eight peptides, from which selections are chosen. */
+static const double p_values[8] = {0.001, 0.2, 0.01, 0.05, 0.04, 0.03, 0.02, 0.6};
+static const double folds[8] = {2.0, -3.0, -1.5, 0.9, 0.5, -1.0, -2.5, 0.1};
+
+/* The bound of the selection in the first eight of nine bytes, if these are as expected and the last is still 77; else 99. */
+static uint16_t bound_of(const uint8_t *selection, const uint8_t *expected)
+{
+    uint8_t taken[5];
+    phf_bounded answer = phf_bound(eight, sizeof eight, selection, 8, taken, 5);
+    int right = memcmp(selection, expected, 8) == 0 && selection[8] == 77 && answer.number == PHF_DONE;
+    return right ? answer.bound : 99;
+}
+
+static void choose(void)
+{
+    /* 4 has just 0.05 and 7 just 0.02; 4 and 5 are inside the band from -1 to 1, and 6 is at its edge */
+    const uint8_t at_most[8] = {1, 0, 1, 1, 1, 1, 1, 0};
+    const uint8_t between[8] = {0, 0, 0, 1, 1, 1, 1, 0};
+    const uint8_t volcano[8] = {1, 0, 1, 0, 0, 1, 1, 0};
+    const uint8_t none[8] = {0, 0, 0, 0, 0, 0, 0, 0};
+    uint8_t out[9];
+    memset(out, 77, sizeof out);
+    /* at most 1 of 3 to 5, and none of 7 and 8: with 1 and 6 these are 3 */
+    HOLDS(phf_choose_at_most(8, p_values, 8, folds, 8, 0.05, out, 9) == PHF_DONE);
+    HOLDS(bound_of(out, at_most) == 3);
+    /* one of 4 and 5; 6 */
+    HOLDS(phf_choose_between(8, p_values, 8, folds, 8, 0.02, 0.05, out, 9) == PHF_DONE);
+    HOLDS(bound_of(out, between) == 2);
+    /* 1, 3 and 6 */
+    HOLDS(phf_choose_volcano(8, p_values, 8, folds, 8, 0.05, 1.0, out, 9) == PHF_DONE);
+    HOLDS(bound_of(out, volcano) == 3);
+    /* a first cut above the second, a cut and a band that nothing reaches are no refusal */
+    HOLDS(phf_choose_between(8, p_values, 8, folds, 8, 0.05, 0.02, out, 9) == PHF_DONE);
+    HOLDS(bound_of(out, none) == 0);
+    out[0] = 1;
+    HOLDS(phf_choose_at_most(8, p_values, 8, folds, 8, -1.0, out, 8) == PHF_DONE);
+    HOLDS(bound_of(out, none) == 0);
+    out[0] = 1;
+    HOLDS(phf_choose_volcano(8, p_values, 8, folds, 8, INFINITY, INFINITY, out, 8) == PHF_DONE);
+    HOLDS(bound_of(out, none) == 0);
+}
+
+static void choose_declines(void)
+{
+    const double bad_p[3] = {0.5, 0.5, 1.5};
+    const double bad_folds[3] = {-INFINITY, 0.0, 0.0};
+    const double not_numbers[3] = {0.0, NAN, 0.0};
+    uint8_t out[4] = {77, 77, 77, 77};
+    HOLDS(phf_choose_at_most(0, NULL, 0, NULL, 0, 0.05, NULL, 0) == PHF_BAD_PEPTIDE_COUNT);
+    HOLDS(phf_choose_between(4097, p_values, 8, folds, 8, NAN, NAN, out, 4) == PHF_BAD_PEPTIDE_COUNT);
+    HOLDS(phf_choose_volcano(3, NULL, 0, NULL, 0, 0.05, 1.0, NULL, 0) == PHF_BAD_ROWS_LENGTH);
+    HOLDS(phf_choose_at_most(3, p_values, 2, folds, 3, 0.05, out, 4) == PHF_BAD_ROWS_LENGTH);
+    HOLDS(phf_choose_between(3, p_values, 3, folds, 4, 0.0, 0.05, out, 4) == PHF_BAD_ROWS_LENGTH);
+    HOLDS(phf_choose_volcano(3, bad_p, 3, folds, 3, NAN, 1.0, out, 2) == PHF_BAD_ROWS_LENGTH);
+    HOLDS(phf_choose_at_most(3, bad_p, 3, folds, 3, 0.05, out, 4) == PHF_BAD_ROW);
+    HOLDS(phf_choose_between(3, p_values, 3, bad_folds, 3, NAN, 0.05, out, 4) == PHF_BAD_ROW);
+    HOLDS(phf_choose_volcano(3, not_numbers, 3, folds, 3, 0.05, -1.0, out, 4) == PHF_BAD_ROW);
+    HOLDS(phf_choose_at_most(3, p_values, 3, not_numbers, 3, 0.05, out, 4) == PHF_BAD_ROW);
+    HOLDS(phf_choose_at_most(3, p_values, 3, folds, 3, NAN, out, 4) == PHF_BAD_RULE);
+    HOLDS(phf_choose_between(3, p_values, 3, folds, 3, NAN, 0.05, out, 4) == PHF_BAD_RULE);
+    HOLDS(phf_choose_between(3, p_values, 3, folds, 3, 0.05, NAN, out, 4) == PHF_BAD_RULE);
+    HOLDS(phf_choose_volcano(3, p_values, 3, folds, 3, NAN, 1.0, out, 4) == PHF_BAD_RULE);
+    HOLDS(phf_choose_volcano(3, p_values, 3, folds, 3, 0.05, -1.0, out, 4) == PHF_BAD_RULE);
+    HOLDS(phf_choose_volcano(3, p_values, 3, folds, 3, 0.05, NAN, out, 4) == PHF_BAD_RULE);
+    HOLDS(out[0] == 77 && out[1] == 77 && out[2] == 77 && out[3] == 77);
+}
+
 static void put(uint8_t *file, size_t at, size_t number)
 {
     file[at] = (uint8_t)(number & 255);
@@ -291,6 +360,8 @@ int main(void)
     check_and_bound_unmeasured();
     curve_and_cut_unmeasured();
     reduce_and_same_unmeasured();
+    choose();
+    choose_declines();
     numbers_of_files();
     numbers_of_other_inputs();
     if (failures == 0)
