@@ -33,7 +33,8 @@
  * things. A leaf may have no peptide (a protein with nothing measured), so N may be larger than m. A region has all
  * peptides of its leaves: it may have none, and two regions may have the same ones. Nesting goes by leaf numbers.
  *
- * EXAMPLE, for a main with <stdio.h>: the curve of a family with 8 peptides, 4 leaves and 5 regions.
+ * EXAMPLE, for a main with <stdio.h>: the curve of a family with 8 peptides, 4 leaves and 5 regions, and the bound of a
+ * selection.
  *
  *     const uint8_t family[54] = {'P', 'H', 'F', 'B', 8, 0, 4, 0, 5, 0, 16, 0, 24, 0, 54, 0, 2, 0, 3, 0, 1, 0, 2, 0,
  *         1, 0, 2, 0, 3, 0, 1, 0, 1, 0, 2, 0, 2, 0, 2, 0, 1, 0, 3, 0, 4, 0, 3, 0, 4, 0, 4, 0, 0, 0};
@@ -45,6 +46,14 @@
  *         return answer.number;
  *     for (int t = 1; t <= 8; t++)
  *         printf("of the first %d at most %d are false\n", t, values[t]);
+ *     // then the bound of those with p at most 0.05 that are at least doubled or halved; the folds are logarithms to base 2
+ *     const double p[8] = {0.001, 0.2, 0.01, 0.05, 0.04, 0.03, 0.02, 0.6};
+ *     const double folds[8] = {2.0, -3.0, -1.5, 0.9, 0.5, -1.0, -2.5, 0.1};
+ *     uint8_t selection[8], taken[5];
+ *     uint16_t number = phf_choose_volcano(8, p, 8, folds, 8, 0.05, 1.0, selection, 8);
+ *     if (number != PHF_DONE)
+ *         return number;
+ *     printf("of the selected at most %d are false\n", phf_bound(family, 54, selection, 8, taken, 5).bound);
  *
  * END OF THE EXAMPLE.
  */

@@ -101,7 +101,7 @@ fn example() -> String {
         .map(|line| line.strip_prefix(" *").unwrap_or(""));
     lines
         .skip_while(|line| !line.starts_with(" EXAMPLE, for a main with <stdio.h>"))
-        .skip(1)
+        .skip_while(|line| !line.is_empty())
         .take_while(|line| *line != " END OF THE EXAMPLE.")
         .flat_map(|line| [line, "\n"])
         .collect()
@@ -116,11 +116,14 @@ fn the_example_of_the_header() {
     );
     std::fs::write(&source, program).unwrap();
     // the bounds of E1 in the scope document, from t = 1 on
-    let expected: String = [0, 1, 2, 2, 3, 4, 4, 4]
+    let curve: String = [0, 1, 2, 2, 3, 4, 4, 4]
         .iter()
         .zip(1..)
         .map(|(bound, t)| format!("of the first {t} at most {bound} are false\n"))
         .collect();
+    // selected are 1, 3, 6 and 7: 4 and 5 lie inside the band, 2 and 8 over the cut. Leaf 4, with 7 and 8, has z = 0; no other
+    // region is full.
+    let expected = curve + "of the selected at most 3 are false\n";
     assert_eq!(
         printed(&C, &source, &static_library(), "example-c"),
         expected
