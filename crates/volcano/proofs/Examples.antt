@@ -7,7 +7,7 @@ use lib.Ieee.{Float, nan, inf, binary64, ofBits, ofFields, odd, lt, le, eq, neg,
 use Rattle.reader.specs.Lists.{tabulate, someBelow}
 use Rattle.reader.specs.Causes.{firstCause, cause2}
 use Rattle.reader.specs.Calls.{short}
-use Rattle.volcano.specs.Rules.{zero, one, passes, rowAt, chosen, offScale, notFinite, somePOff, someFoldOff, cause17, cause18, cause19}
+use Rattle.volcano.specs.Rules.{zero, one, passes, rowAt, chosen, offScale, notFinite, cause17, cause18, cause19}
 use Rattle.volcano.specs.Calls.{chooseCauses}
 use Rattle.volcano.specs.declared.Row.{Row}
 use Rattle.volcano.specs.declared.Rule.{Rule}
@@ -137,7 +137,7 @@ rule-examples =
     }
 
 pub choose-examples : ChooseExamples
-unfolding firstCause chooseCauses chosen tabulate someBelow rowAt passes somePOff someFoldOff offScale notFinite short cause2 cause17 cause18 cause19 ofBits ofFields odd lt le eq neg isNan
+unfolding firstCause chooseCauses chosen tabulate someBelow rowAt passes offScale notFinite short cause2 cause17 cause18 cause19 ofBits ofFields odd lt le eq neg isNan
 choose-examples =
     record {
       number-2 = refl;

@@ -4,7 +4,7 @@ use native.Mathlib.Numerals.{add-one}
 use native.Mathlib.Omega.{arith}
 use mathlib.Core.Bool.{Bool, true, false, not, cond, _||_}
 use mathlib.Core.List.{List}
-use mathlib.Core.Path.{_≡_}
+use mathlib.Core.Path.{_≡_, refl}
 use lib.ListN.{length, getD}
 use lib.Dec.{eqb}
 use lib.Ieee.{Float, nan}
@@ -16,7 +16,7 @@ use Rattle.reader.proofs.Bools.{or-fails-l, or-fails-r}
 use Rattle.reader.proofs.Below.{none-at}
 use Rattle.reader.proofs.First.{head-clear}
 use Rattle.reader.proofs.Judged.{peptides-counted}
-use Rattle.volcano.specs.Rules.{passes, rowAt, offScale, notFinite, somePOff, someFoldOff, cause17, cause18, cause19}
+use Rattle.volcano.specs.Rules.{passes, rowAt, offScale, notFinite, cause17, cause18, cause19}
 use Rattle.volcano.specs.Calls.{chooseCauses}
 use Rattle.volcano.specs.declared.Rule.{Rule}
 
@@ -27,10 +27,28 @@ pOff ps i = offScale (getD ps i nan)
 abbrev pub foldOff : List Float → ℕ → Bool
 foldOff folds i = notFinite (getD folds i nan)
 
--- a loop that knows whether one of the first n is refused, after one more
-pub some-more : (refused : ℕ → Bool) (n : ℕ) (before here : Bool) → before ≡ someBelow n refused → here ≡ refused n → before || here ≡ someBelow (n + 1) refused
-unfolding someBelow
-some-more refused n before here h k = rw (h, k, add-one n)
+regroup : (a b c d : Bool) → (a || b) || (c || d) ≡ (a || c) || (b || d)
+regroup true b c d = refl
+regroup false true true d = refl
+regroup false true false d = refl
+regroup false false c d = refl
+
+-- one of the first n rows is refused
+unfoldable pub badBelow : List Float → List Float → ℕ → Bool
+badBelow ps folds n = someBelow n (pOff ps) || someBelow n (foldOff folds)
+
+module _ (ps folds : List Float) where
+  pub rows-none : badBelow ps folds 0 ≡ false
+  unfolding badBelow someBelow
+  rows-none = refl
+
+  pub rows-more : (n : ℕ) (before here : Bool) → before ≡ badBelow ps folds n → here ≡ pOff ps n || foldOff folds n → before || here ≡ badBelow ps folds (n + 1)
+  unfolding badBelow someBelow
+  rows-more n before here h k = rw (h, k, add-one n) (regroup (someBelow n (pOff ps)) (someBelow n (foldOff folds)) (pOff ps n) (foldOff folds n))
+
+  pub rows-all : (n : ℕ) → n ≡ length ps → n ≡ length folds → badBelow ps folds n ≡ cause18 ps folds
+  unfolding badBelow cause18
+  rows-all n e k = rw (← e, ← k)
 
 -- the byte of a test, and that of row i
 abbrev pub byteOf : Bool → ℕ
@@ -69,21 +87,30 @@ module _ (m : ℕ) (ps folds : List Float) (rule : Rule) (room : ℕ) where
   unfolding firstCause chooseCauses
   number-19 h k l = rw (h, k, l)
 
+  pub lengths-match : cause17 m ps folds room ≡ false → (length ps ≡ m) × (length folds ≡ m) × (m ≤ room)
+  unfolding cause17 short
+  lengths-match h =
+      let others = or-fails-r (not (eqb (length ps) m)) (not (eqb (length folds) m) || short m room) h in (
+        eqb-true (length ps) m (not-false _ (or-fails-l _ (not (eqb (length folds) m) || short m room) h)),
+        eqb-true (length folds) m (not-false _ (or-fails-l _ (short m room) others)),
+        ltb-false room m (or-fails-r (not (eqb (length folds) m)) _ others),
+      )
+
   pub none-holds : firstCause (chooseCauses m ps folds rule room) ≡ 0 → Clear m ps folds rule room
-  unfolding chooseCauses cause17 short
+  unfolding chooseCauses
   none-holds h =
       let a = head-clear _ _ (omega arith) h in
       let b = head-clear _ _ (omega arith) (a .1) in
       let c = head-clear _ _ (omega arith) (b .1) in
       let d = head-clear _ _ (omega arith) (c .1) in
       let counted = peptides-counted m (a .0) in
-      let others = or-fails-r (not (eqb (length ps) m)) (not (eqb (length folds) m) || short m room) (b .0) in
+      let lengths = lengths-match (b .0) in
       record {
         some = counted .0;
         most = counted .1;
-        p-rows = eqb-true (length ps) m (not-false _ (or-fails-l _ (not (eqb (length folds) m) || short m room) (b .0)));
-        fold-rows = eqb-true (length folds) m (not-false _ (or-fails-l _ (short m room) others));
-        places = ltb-false room m (or-fails-r (not (eqb (length folds) m)) _ others);
+        p-rows = lengths .0;
+        fold-rows = lengths .1;
+        places = lengths .2;
         rows-clear = c .0;
         rule-clear = d .0;
       }
@@ -91,9 +118,9 @@ module _ (m : ℕ) (ps folds : List Float) (rule : Rule) (room : ℕ) where
 -- Where cause 18 does not hold, no row is refused.
 module _ (ps folds : List Float) (clear : cause18 ps folds ≡ false) where
   pub p-at : (i : ℕ) → i < length ps → offScale (rowAt ps folds i .p) ≡ false
-  unfolding cause18 somePOff rowAt
-  p-at i l = none-at (pOff ps) (length ps) i (or-fails-l (somePOff ps) (someFoldOff folds) clear) l
+  unfolding cause18 rowAt
+  p-at i l = none-at (pOff ps) (length ps) i (or-fails-l _ (someBelow (length folds) (foldOff folds)) clear) l
 
   pub fold-at : (i : ℕ) → i < length folds → notFinite (rowAt ps folds i .fold) ≡ false
-  unfolding cause18 someFoldOff rowAt
-  fold-at i l = none-at (foldOff folds) (length folds) i (or-fails-r (somePOff ps) (someFoldOff folds) clear) l
+  unfolding cause18 rowAt
+  fold-at i l = none-at (foldOff folds) (length folds) i (or-fails-r (someBelow (length ps) (pOff ps)) _ clear) l

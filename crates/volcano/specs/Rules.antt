@@ -19,7 +19,8 @@ zero = ofBits binary64 0
 abbrev pub one : Float
 one = ofBits binary64 0x3ff0_0000_0000_0000
 
--- p at or under a cut; p from one cut to another, both included; p at or under a cut, with the fold at least f or at most -f
+-- p at or under a cut; p from one cut to another, both included; p at or under a cut, with the fold at least f or at most -f.
+-- A cut is what the field calls a threshold of the p-value, and f one of the log fold change.
 unfoldable pub passes : Rule → Row → Bool
 passes (AtMost cut) row = le (row .p) cut
 passes (Between low high) row = le low (row .p) && le (row .p) high
@@ -46,15 +47,9 @@ notFinite nan = true
 notFinite (inf s) = true
 notFinite (fin s m e) = false
 
-unfoldable pub somePOff : List Float → Bool
-somePOff ps = someBelow (length ps) (λ i. offScale (getD ps i nan))
-
-unfoldable pub someFoldOff : List Float → Bool
-someFoldOff folds = someBelow (length folds) (λ i. notFinite (getD folds i nan))
-
 -- a p that is not a number or outside 0 to 1, or a fold not finite
 unfoldable pub cause18 : List Float → List Float → Bool
-cause18 ps folds = somePOff ps || someFoldOff folds
+cause18 ps folds = someBelow (length ps) (λ i. offScale (getD ps i nan)) || someBelow (length folds) (λ i. notFinite (getD folds i nan))
 
 -- a cut or f that is not a number, or f under 0
 unfoldable pub cause19 : Rule → Bool

@@ -1,9 +1,12 @@
 // Causes 2 and 17 to 19: the number of peptides, the slices, the rows and the rule.
+use crate::Row;
 use crate::Rule;
+ghost use mathlib.Core.Bool.{_||_};
 ghost use mathlib.Core.Path.{_≡_};
+ghost use lib.ListN.{length};
 ghost use lib.Ieee.{isNan};
 ghost use Rattle.reader.specs.Causes.{cause2, firstCause};
-ghost use Rattle.volcano.specs.Rules.{offScale, notFinite, somePOff, someFoldOff, cause17, cause18, cause19};
+ghost use Rattle.volcano.specs.Rules.{offScale, notFinite, cause17, cause18, cause19};
 ghost use Rattle.volcano.specs.Calls.{chooseCauses};
 
 // m is 0 or over 4,096.
@@ -49,36 +52,27 @@ fn not_finite(x: f64) -> bool
     no_number(x) || (x == top || x == -top)
 }
 
-// This loop and the next have no way out: several rows are then judged at once.
-fn some_p_off(p_values: &[f64]) -> bool
-    ensures { λ r. ⌜ r ≡ somePOff (now («p_values» .entry)) ⌝ }
-{
-    let mut off = false;
-    let mut i = 0;
-    while i < p_values.len() {
-        off |= off_scale(p_values[i]);
-        i += 1;
-    }
-    off
-}
-
-fn some_fold_off(folds: &[f64]) -> bool
-    ensures { λ r. ⌜ r ≡ someFoldOff (now (folds .entry)) ⌝ }
-{
-    let mut off = false;
-    let mut i = 0;
-    while i < folds.len() {
-        off |= not_finite(folds[i]);
-        i += 1;
-    }
-    off
-}
-
 // A p that is not a number or outside 0 to 1, or a fold not finite.
+fn bad_row(row: Row) -> bool
+    ensures { λ r. ⌜ r ≡ offScale (row .p) || notFinite (row .fold) ⌝ }
+{
+    off_scale(row.p) | not_finite(row.fold)
+}
+
+// The same, of some row. The loop has no way out, and `bad_row` no branch: several rows are then judged at once.
 fn bad_rows(p_values: &[f64], folds: &[f64]) -> bool
+    requires { ⌜ length (now «p_values») ≡ length (now folds) ⌝ }
     ensures { λ r. ⌜ r ≡ cause18 (now («p_values» .entry)) (now (folds .entry)) ⌝ }
 {
-    some_p_off(p_values) || some_fold_off(folds)
+    let mut bad = false;
+    let mut i = 0;
+    while i < p_values.len() {
+        let p = p_values[i];
+        let fold = folds[i];
+        bad |= bad_row(Row { p, fold });
+        i += 1;
+    }
+    bad
 }
 
 // A cut or f that is not a number, or f under 0.

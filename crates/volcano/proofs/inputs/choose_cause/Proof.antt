@@ -5,7 +5,7 @@ use denote.Ref.{now}
 use Rattle.reader.specs.Causes.{cause2, firstCause}
 use Rattle.volcano.specs.Rules.{cause19}
 use Rattle.volcano.specs.Calls.{chooseCauses}
-use Rattle.volcano.proofs.Judging.{number-2, number-17, number-18, number-19}
+use Rattle.volcano.proofs.Judging.{lengths-match, number-2, number-17, number-18, number-19}
 use borrow.Author.Needs.{needs}
 use Rattle.volcano.proofs.inputs.choose_cause.Statement.{statement}
 use Rattle.volcano.proofs.inputs.choose_cause.Tie as tie
@@ -31,7 +31,7 @@ returns-2 : tie.Need-returns-2
 returns-2 c = sym (number-17 _ _ _ _ _ (no2 (c .before .before)) (sym (c .before .wrong-lengths .ensures) ∙ c .if2 .taken))
 
 bad-rows-requires : tie.Need-bad-rows-requires
-bad-rows-requires c κs = search needs
+bad-rows-requires c κs = let l = lengths-match _ _ _ (c .before .before .before .before .before .before .args .rule) _ (sym (c .before .wrong-lengths .ensures) ∙ c .if2 .left) in l .0 ∙ sym (l .1)
 
 returns-3 : tie.Need-returns-3
 returns-3 c =
