@@ -1,8 +1,8 @@
 -- What `choose` has chosen, and which rules choose the same.
 use Prim.Native.Nat.{ℕ, suc, _<_, _≤_}
 use native.Mathlib.Omega.{arith}
-use mathlib.Core.Bool.{Bool, true, false, cond, _&&_, _||_}
-use mathlib.Core.List.{List, _∷_, _++_}
+use mathlib.Core.Bool.{Bool, true, false, _&&_, _||_}
+use mathlib.Core.List.{List, _++_}
 use mathlib.Core.Path.{_≡_, refl, sym, ap, _∙_}
 use mathlib.Core.Logic.{⊎-elim, _↔_}
 use lib.ListN.{length, getD, take, drop, List·getD-append}
@@ -10,7 +10,6 @@ use lib.Seq.{take-append-seam, drop-append-seam}
 use lib.Dec.{eqb, ltb}
 use lib.Ieee.{Float, lt, le, isNan}
 use borrow.Author.Tests.{le-ltb}
-use Rattle.reader.specs.Lists.{tabulate}
 use Rattle.reader.specs.Family.{familyOf, regionCount}
 use Rattle.reader.specs.Causes.{Cause, firstCause, Accepted}
 use Rattle.reader.specs.Calls.{written}
@@ -94,7 +93,7 @@ small-bit true = le-ltb 1 1 (omega arith)
 small-bit false = le-ltb 1 0 (omega arith)
 
 module _ (m : ℕ) (ps folds : List Float) (rule : Rule) (out new : List ℕ) (clear : firstCause (chooseCauses m ps folds rule (length out)) ≡ 0) (w : ChooseWrites m ps folds rule out new) where
-  known : Clear m ps folds rule (length out)
+  known : Clear m ps folds (length out)
   known = none-holds m ps folds rule (length out) clear
 
   chosen-rows : length (chosen rule ps folds) ≡ m

@@ -1,4 +1,5 @@
--- Causes 2 and 17 to 19: the first that holds, and what is known where none does.
+-- Causes 2 and 17 to 19: the first that holds, and what is known where none does. Where 17 does not hold, the lengths match; where 18
+-- does not, no row is refused.
 use Prim.Native.Nat.{ℕ, _+_, _<_, _≤_}
 use native.Mathlib.Numerals.{add-one}
 use native.Mathlib.Omega.{arith}
@@ -15,7 +16,6 @@ use Rattle.reader.specs.Lists.{someBelow}
 use Rattle.reader.proofs.Bools.{or-fails-l, or-fails-r}
 use Rattle.reader.proofs.Below.{none-at}
 use Rattle.reader.proofs.First.{head-clear}
-use Rattle.reader.proofs.Judged.{peptides-counted}
 use Rattle.volcano.specs.Rules.{passes, rowAt, offScale, notFinite, cause17, cause18, cause19}
 use Rattle.volcano.specs.Calls.{chooseCauses}
 use Rattle.volcano.specs.declared.Rule.{Rule}
@@ -57,15 +57,12 @@ byteOf b = cond b 1 0
 abbrev pub bit : Rule → List Float → List Float → ℕ → ℕ
 bit rule ps folds i = byteOf (passes rule (rowAt ps folds i))
 
--- what is known of a call for which no cause holds
-pub record Clear (m : ℕ) (ps folds : List Float) (rule : Rule) (room : ℕ) : Type 0 where
-  pub some : 1 ≤ m
-  pub most : m ≤ 4096
+-- what the laws use of a call for which no cause holds
+pub record Clear (m : ℕ) (ps folds : List Float) (room : ℕ) : Type 0 where
   pub p-rows : length ps ≡ m
   pub fold-rows : length folds ≡ m
   pub places : m ≤ room
   pub rows-clear : cause18 ps folds ≡ false
-  pub rule-clear : cause19 rule ≡ false
 
 module _ (m : ℕ) (ps folds : List Float) (rule : Rule) (room : ℕ) where
   -- The first cause, in the order in which they are tried.
@@ -96,26 +93,15 @@ module _ (m : ℕ) (ps folds : List Float) (rule : Rule) (room : ℕ) where
         ltb-false room m (or-fails-r (not (eqb (length folds) m)) _ others),
       )
 
-  pub none-holds : firstCause (chooseCauses m ps folds rule room) ≡ 0 → Clear m ps folds rule room
+  pub none-holds : firstCause (chooseCauses m ps folds rule room) ≡ 0 → Clear m ps folds room
   unfolding chooseCauses
   none-holds h =
       let a = head-clear _ _ (omega arith) h in
       let b = head-clear _ _ (omega arith) (a .1) in
       let c = head-clear _ _ (omega arith) (b .1) in
-      let d = head-clear _ _ (omega arith) (c .1) in
-      let counted = peptides-counted m (a .0) in
       let lengths = lengths-match (b .0) in
-      record {
-        some = counted .0;
-        most = counted .1;
-        p-rows = lengths .0;
-        fold-rows = lengths .1;
-        places = lengths .2;
-        rows-clear = c .0;
-        rule-clear = d .0;
-      }
+      record { p-rows = lengths .0; fold-rows = lengths .1; places = lengths .2; rows-clear = c .0 }
 
--- Where cause 18 does not hold, no row is refused.
 module _ (ps folds : List Float) (clear : cause18 ps folds ≡ false) where
   pub p-at : (i : ℕ) → i < length ps → offScale (rowAt ps folds i .p) ≡ false
   unfolding cause18 rowAt
