@@ -11,8 +11,9 @@
  *   - a buffer is a pointer and a number of elements (not bytes): the elements are there, and aligned;
  *   - a buffer that is written overlaps no other buffer of the same call;
  *   - a buffer with 0 elements is not looked at, and its pointer may be anything, NULL included;
- *   - a double is a 64-bit float of IEEE 754 and is compared as it says there: the machine is in no mode that takes
- *     subnormal numbers for 0.
+ *   - a double is a 64-bit float of IEEE 754 and is compared as it says there: the thread is in no mode that takes subnormal
+ *     numbers for 0 (gcc sets one in a program that it links with -ffast-math), and traps no floating-point exception.
+ *     phf_choose_... may leave flags of such exceptions set.
  *
  * No function keeps anything from one call to the next, allocates, or fails otherwise than by the number it returns.
  * All may be called from several threads at once. They need up to 512 KB of stack.

@@ -1,6 +1,6 @@
 // The C interface: the calls of the libraries under C names, and nothing else. include/phf.h is this file as C sees it.
 // A slice is a pointer and a number of elements. An answer is a struct by value: the number of the first cause that holds,
-// 0 for none, then the values; a field that has no value is 0.
+// 0 for none, then the values; a field that has no value is 0. That of a choice is the number alone.
 use bounds::Bounded;
 use bounds::Curved;
 use bounds::CutFound;

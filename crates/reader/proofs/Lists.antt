@@ -9,6 +9,9 @@
 --   same-all          it passes for lists of one length that agree at every place
 --   same-is           it passes for equal lists
 --   copy-more         a copy of the front of one list into another, one element further
+--   write-none        a list that is written from the start with f 0, f 1, ..: before the first
+--   write-more        one element further
+--   write-first       the first
 --   zeros             a row of zeros reads 0 at every place, past its end too
 use Prim.Native.Nat.{ℕ, zero, suc, _+_, _<_}
 use native.Mathlib.Nat.{not-suc-le-zero, le-of-suc-le-suc}
@@ -18,7 +21,7 @@ use mathlib.Core.Bool.{true, false}
 use mathlib.Core.List.{List, [], _∷_, _++_}
 use mathlib.Core.Path.{_≡_, refl, sym, ap}
 use lib.ListN.{length, getD, take, drop, set, replicate}
-use lib.Seq.{ext-getD, drop-cons, take-suc, set-at, append-snoc, length-take-le}
+use lib.Seq.{ext-getD, drop-cons, take-suc, set-at, append-snoc, drop-set-lt, length-take-le}
 use lib.Dec.{eqb}
 use borrow.Author.Tests.{eqb-true, eq-eqb}
 use Rattle.reader.specs.Lists.{tabulate, sum, sameList}
@@ -76,6 +79,27 @@ pub copy-more :
 copy-more f t i lf lt =
     rw (drop-cons t i 0 lt, set-at (take i f) (getD t i 0) (drop (suc i) t) (getD f i 0) i (length-take-le i f (omega arith)), add-one i, take-suc f i 0 lf)
     (sym (append-snoc (take i f) (getD f i 0) (drop (suc i) t)))
+
+-- Lists that are written from the start.
+
+tabulate-more : (n : ℕ) (f : ℕ → ℕ) → tabulate (suc n) f ≡ tabulate n f ++ (f n ∷ [])
+unfolding tabulate
+tabulate-more zero f = refl
+tabulate-more (suc n) f = ap (λ (l : List ℕ). f 0 ∷ l) (tabulate-more n (λ i. f (suc i)))
+
+pub write-none : (f : ℕ → ℕ) (xs : List ℕ) → xs ≡ tabulate 0 f ++ drop 0 xs
+unfolding tabulate
+write-none f xs = refl
+
+pub write-more : (f : ℕ → ℕ) (xs : List ℕ) (n v : ℕ) → n < length xs → v ≡ f n
+    → set (tabulate n f ++ drop n xs) n v ≡ tabulate (n + 1) f ++ drop (n + 1) xs
+write-more f xs n v h e =
+    rw (e, drop-cons xs n 0 h, set-at (tabulate n f) (getD xs n 0) (drop (suc n) xs) (f n) n (length-tabulate n f), add-one n, tabulate-more n f)
+    (sym (append-snoc (tabulate n f) (f n) (drop (suc n) xs)))
+
+pub write-first : (f : ℕ → ℕ) (xs : List ℕ) (v : ℕ) → 0 < length xs → v ≡ f 0 → set xs 0 v ≡ tabulate (0 + 1) f ++ drop (0 + 1) (set xs 0 v)
+unfolding tabulate
+write-first f xs v h e = rw (drop-set-lt 1 xs 0 v (omega arith)) (write-more f xs 0 v h e)
 
 pub zeros : (n k : ℕ) → _≡_ {A = ℕ} (getD (replicate n 0) k 0) 0
 zeros zero k = refl

@@ -21,29 +21,30 @@ use Rattle.bounds.specs.Selections.{selected, cause14}
 use Rattle.bounds.specs.Calls.{selectionCauses}
 use Rattle.bounds.proofs.Calls.Selecting.{overOne, right-selection}
 use Rattle.bounds.proofs.Calls.SelectionCalls.{selection-clear}
+use Rattle.bounds.proofs.Basics.Members.{bit, bit-few, eqb-bit}
 use Rattle.volcano.specs.Rules.{passes, rowAt, chosen, offScale, notFinite, cause19}
 use Rattle.volcano.specs.Calls.{chooseCauses, ChooseWrites}
 use Rattle.volcano.specs.declared.Row.{Row}
 use Rattle.volcano.specs.declared.Rule.{Rule}
 use Rattle.volcano.specs.declared.Rule.the-variants.{AtMost, Between, Volcano}
 use Rattle.volcano.proofs.Floats.{zeroOf, none-between, zero-number, zero-not-under, zero-first, zero-side, numbers-if-under}
-use Rattle.volcano.proofs.Judging.{byteOf, bit, Clear, none-holds, p-at, fold-at}
+use Rattle.volcano.proofs.Judging.{byteAt, Clear, none-holds, p-at, fold-at}
 
 -- New bytes whose first m are the selection of the rows that pass a rule, and the rest those of out.
 pub record Selects (m : ℕ) (ps folds : List Float) (rule : Rule) (out new : List ℕ) : Type 0 where
-  -- byte i is 1 exactly if row i passes, else 0
-  pub one : (i : ℕ) → i < m → (getD new i 0 ≡ 1) ↔ (passes rule (rowAt ps folds i) ≡ true)
-  pub none : (i : ℕ) → i < m → (getD new i 0 ≡ 0) ↔ (passes rule (rowAt ps folds i) ≡ false)
-  pub rest : drop m new ≡ drop m out
-  -- it is a selection of m peptides, of those whose row passes; peptide i + 1 has row i
+  -- byte i is 1 exactly if row i passes
+  pub one-if-passes : (i : ℕ) → i < m → (getD new i 0 ≡ 1) ↔ (passes rule (rowAt ps folds i) ≡ true)
+  -- they are a selection of m peptides, so that every other byte is 0
   pub selection : cause14 m (take m new) ≡ false
+  -- `bound` takes for selected the peptides whose row passes; peptide i + 1 has row i
   pub peptides : (i : ℕ) → i < m → selected (take m new) (suc i) ≡ passes rule (rowAt ps folds i)
+  pub rest : drop m new ≡ drop m out
 
 -- Two rules that every call answers alike, with the same number and the same bytes.
-pub record Alike (one other : Rule) : Type 0 where
-  pub number : (m : ℕ) (ps folds : List Float) (room : ℕ) → firstCause (chooseCauses m ps folds one room) ≡ firstCause (chooseCauses m ps folds other room)
+pub record Alike (a b : Rule) : Type 0 where
+  pub number : (m : ℕ) (ps folds : List Float) (room : ℕ) → firstCause (chooseCauses m ps folds a room) ≡ firstCause (chooseCauses m ps folds b room)
   pub bytes : (m : ℕ) (ps folds : List Float) (out : List ℕ)
-      → written (chooseCauses m ps folds one (length out)) (chosen one ps folds) out ≡ written (chooseCauses m ps folds other (length out)) (chosen other ps folds) out
+      → written (chooseCauses m ps folds a (length out)) (chosen a ps folds) out ≡ written (chooseCauses m ps folds b (length out)) (chosen b ps folds) out
 
 pub record ChoiceLaws : Type 0 where
   -- A call for which no cause holds, after its promise.
@@ -64,11 +65,11 @@ pub record ChoiceLaws : Type 0 where
 module _ (rule : Rule) (ps folds : List Float) where
   chosen-length : length (chosen rule ps folds) ≡ length ps
   unfolding chosen
-  chosen-length = length-tabulate (length ps) (bit rule ps folds)
+  chosen-length = length-tabulate (length ps) (byteAt rule ps folds)
 
-  chosen-at : (i : ℕ) → i < length ps → getD (chosen rule ps folds) i 0 ≡ bit rule ps folds i
+  chosen-at : (i : ℕ) → i < length ps → getD (chosen rule ps folds) i 0 ≡ byteAt rule ps folds i
   unfolding chosen
-  chosen-at i l = getD-tabulate (length ps) (bit rule ps folds) 0 i l
+  chosen-at i l = getD-tabulate (length ps) (byteAt rule ps folds) 0 i l
 
 -- the output with a byte for each row is the one that is promised
 pub writes-chosen : (m : ℕ) (ps folds : List Float) (rule : Rule) (out new : List ℕ) → firstCause (chooseCauses m ps folds rule (length out)) ≡ 0
@@ -76,21 +77,9 @@ pub writes-chosen : (m : ℕ) (ps folds : List Float) (rule : Rule) (out new : L
 writes-chosen m ps folds rule out new clear w =
     w ∙ sym (writes (chooseCauses m ps folds rule (length out)) clear (chosen rule ps folds) out ∙ ap (λ (n : ℕ). chosen rule ps folds ++ drop n out) (chosen-length rule ps folds))
 
-bit-one : (b : Bool) → (byteOf b ≡ 1) ↔ (b ≡ true)
+bit-one : (b : Bool) → (bit b ≡ 1) ↔ (b ≡ true)
 bit-one true = (λ e. refl, λ e. refl)
 bit-one false = (λ e. absurd (omega (arith, e)), λ e. absurd (clash e refl))
-
-bit-none : (b : Bool) → (byteOf b ≡ 0) ↔ (b ≡ false)
-bit-none true = (λ e. absurd (omega (arith, e)), λ e. absurd (clash refl e))
-bit-none false = (λ e. refl, λ e. refl)
-
-bit-is : (b : Bool) → eqb (byteOf b) 1 ≡ b
-bit-is true = refl
-bit-is false = refl
-
-small-bit : (b : Bool) → ltb 1 (byteOf b) ≡ false
-small-bit true = le-ltb 1 1 (omega arith)
-small-bit false = le-ltb 1 0 (omega arith)
 
 module _ (m : ℕ) (ps folds : List Float) (rule : Rule) (out new : List ℕ) (clear : firstCause (chooseCauses m ps folds rule (length out)) ≡ 0) (w : ChooseWrites m ps folds rule out new) where
   known : Clear m ps folds (length out)
@@ -105,10 +94,10 @@ module _ (m : ℕ) (ps folds : List Float) (rule : Rule) (out new : List ℕ) (c
   front-is : take m new ≡ chosen rule ps folds
   front-is = rw (new-is, ← chosen-rows) (take-append-seam (chosen rule ps folds) (drop (length (chosen rule ps folds)) out))
 
-  front-at : (i : ℕ) → i < m → getD (chosen rule ps folds) i 0 ≡ bit rule ps folds i
+  front-at : (i : ℕ) → i < m → getD (chosen rule ps folds) i 0 ≡ byteAt rule ps folds i
   front-at i l = chosen-at rule ps folds i (omega (arith, known .p-rows))
 
-  byte-at : (i : ℕ) → i < m → getD new i 0 ≡ bit rule ps folds i
+  byte-at : (i : ℕ) → i < m → getD new i 0 ≡ byteAt rule ps folds i
   byte-at i l = ap (λ (s : List ℕ). getD s i 0) new-is ∙ List·getD-append (chosen rule ps folds) (drop m out) 0 i (omega (arith, chosen-rows)) ∙ front-at i l
 
   is-selection : cause14 m (take m new) ≡ false
@@ -116,20 +105,19 @@ module _ (m : ℕ) (ps folds : List Float) (rule : Rule) (out new : List ℕ) (c
       rw front-is
       (right-selection m (chosen rule ps folds) chosen-rows
       (none-below (overOne (chosen rule ps folds)) (length (chosen rule ps folds))
-      (λ i l. rw (front-at i (omega (arith, chosen-rows))) (small-bit (passes rule (rowAt ps folds i))))))
+      (λ i l. rw (front-at i (omega (arith, chosen-rows))) (le-ltb 1 _ (bit-few (passes rule (rowAt ps folds i)))))))
 
   selected-at : (i : ℕ) → i < m → selected (take m new) (suc i) ≡ passes rule (rowAt ps folds i)
   unfolding selected
-  selected-at i l = rw (front-is, front-at i l) (bit-is (passes rule (rowAt ps folds i)))
+  selected-at i l = rw (front-is, front-at i l) (eqb-bit (passes rule (rowAt ps folds i)))
 
   made-selection : Selects m ps folds rule out new
   made-selection =
       record {
-        one = λ i l. rw (byte-at i l) (bit-one (passes rule (rowAt ps folds i)));
-        none = λ i l. rw (byte-at i l) (bit-none (passes rule (rowAt ps folds i)));
-        rest = rw (new-is, ← chosen-rows) (drop-append-seam (chosen rule ps folds) (drop (length (chosen rule ps folds)) out));
+        one-if-passes = λ i l. rw (byte-at i l) (bit-one (passes rule (rowAt ps folds i)));
         selection = is-selection;
         peptides = selected-at;
+        rest = rw (new-is, ← chosen-rows) (drop-append-seam (chosen rule ps folds) (drop (length (chosen rule ps folds)) out));
       }
 
 -- Rules that choose the same.
@@ -143,8 +131,8 @@ module _ (a b : Rule) (same-cause : cause19 a ≡ cause19 b) (same-rows : (row :
   unfolding chosen
   same-chosen m ps folds room h =
       let known = none-holds m ps folds a room h in
-      tabulate-same (length ps) (bit a ps folds) (bit b ps folds)
-      (λ i l. ap byteOf (same-rows (rowAt ps folds i) (p-at ps folds (known .rows-clear) i l) (fold-at ps folds (known .rows-clear) i (omega (arith, known .p-rows, known .fold-rows)))))
+      tabulate-same (length ps) (byteAt a ps folds) (byteAt b ps folds)
+      (λ i l. ap bit (same-rows (rowAt ps folds i) (p-at ps folds (known .rows-clear) i l) (fold-at ps folds (known .rows-clear) i (omega (arith, known .p-rows, known .fold-rows)))))
 
   same-bytes : (m : ℕ) (ps folds : List Float) (out : List ℕ)
       → written (chooseCauses m ps folds a (length out)) (chosen a ps folds) out ≡ written (chooseCauses m ps folds b (length out)) (chosen b ps folds) out

@@ -6,16 +6,16 @@
 --   zero-first         a p-value that is not refused is at least either zero
 --   zero-side          a finite number is at least a zero, or at most the zero of the other sign
 --   numbers-if-under   what is under something, and what is over it, are numbers
-use Prim.Native.Nat.{ℕ, suc, _+_, _*_, _<_, _≤_}
+use Prim.Native.Nat.{ℕ, _+_, _*_, _<_, _≤_}
 use native.Mathlib.Nat.{mul-le-mul-right, eq-or-lt-of-le}
 use native.Mathlib.Omega.{arith}
 use mathlib.Core.Bool.{Bool, true, false, cond, _&&_, _||_, true≢false}
 use mathlib.Core.Path.{_≡_, refl, sym}
 use mathlib.Core.Logic.{⊎-elim}
-use lib.IntN.{ℤ, pos, negsuc}
-use lib.Pow.{pow-pos}
+use lib.IntN.{ℤ, pos}
 use lib.Dec.{eqb, ltb}
 use lib.Ieee.{Float, nan, inf, fin, up, down, below, level, lt, le, eq, ne, neg, isNan, odd, ofFields, ofBits}
+use lib.Ieee.Fits.{down-pos}
 use borrow.Author.Tests.{ltb-true, ltb-false, lt-ltb, eqb-true, eq-eqb}
 use Rattle.reader.proofs.Bools.{clash, refuted, and-l, and-r, and-both, or-l, or-r, or-either, or-fails-l, or-fails-r}
 use Rattle.volcano.specs.Rules.{zero, one, offScale, notFinite}
@@ -83,10 +83,6 @@ lt-fails true a true b h = omega (arith, ltb-false b a h)
 
 -- No number lies from one number to a smaller one.
 
-down-some : (e : ℤ) → 0 < down e
-down-some (pos k) = omega arith
-down-some (negsuc k) = pow-pos (suc k)
-
 above-times : (s : Bool) (a d : ℕ) → above s (a * d) ≡ above s a * d
 above-times true a d = omega arith
 above-times false a d = refl
@@ -105,7 +101,7 @@ module _ (r : Bool) (k : ℕ) (c : ℤ) (s : Bool) (m : ℕ) (e : ℤ) (t : Bool
   unfolding le lt eq
   finite-apart l a b =
       round-trip (above r (k * up c)) (beneath r (k * up c)) (down c) (above s (m * up e)) (beneath s (m * up e)) (down e) (above t (n * up d)) (beneath t (n * up d)) (down d)
-      (down-some e)
+      (down-pos e)
       (omega (arith, le-facts r (k * up c * down e) s (m * up e * down c) a, above-times r (k * up c) (down e), beneath-times r (k * up c) (down e), above-times s (m * up e) (down c), beneath-times s (m * up e) (down c)))
       (omega (arith, le-facts s (m * up e * down d) t (n * up d * down e) b, above-times s (m * up e) (down d), beneath-times s (m * up e) (down d), above-times t (n * up d) (down e), beneath-times t (n * up d) (down e)))
       (omega (arith, lt-facts t (n * up d * down c) r (k * up c * down d) l, above-times t (n * up d) (down c), beneath-times t (n * up d) (down c), above-times r (k * up c) (down d), beneath-times r (k * up c) (down d)))

@@ -16,6 +16,7 @@ use Rattle.reader.specs.Lists.{someBelow}
 use Rattle.reader.proofs.Bools.{or-fails-l, or-fails-r}
 use Rattle.reader.proofs.Below.{none-at}
 use Rattle.reader.proofs.First.{head-clear}
+use Rattle.bounds.proofs.Basics.Members.{bit}
 use Rattle.volcano.specs.Rules.{passes, rowAt, offScale, notFinite, cause17, cause18, cause19}
 use Rattle.volcano.specs.Calls.{chooseCauses}
 use Rattle.volcano.specs.declared.Rule.{Rule}
@@ -50,12 +51,18 @@ module _ (ps folds : List Float) where
   unfolding badBelow cause18
   rows-all n e k = rw (← e, ← k)
 
--- the byte of a test, and that of row i
-abbrev pub byteOf : Bool → ℕ
-byteOf b = cond b 1 0
+pub lengths-match : (m : ℕ) (ps folds : List Float) (room : ℕ) → cause17 m ps folds room ≡ false → (length ps ≡ m) × (length folds ≡ m) × (m ≤ room)
+unfolding cause17 short
+lengths-match m ps folds room h =
+    let others = or-fails-r (not (eqb (length ps) m)) (not (eqb (length folds) m) || short m room) h in (
+      eqb-true (length ps) m (not-false _ (or-fails-l _ (not (eqb (length folds) m) || short m room) h)),
+      eqb-true (length folds) m (not-false _ (or-fails-l _ (short m room) others)),
+      ltb-false room m (or-fails-r (not (eqb (length folds) m)) _ others),
+    )
 
-abbrev pub bit : Rule → List Float → List Float → ℕ → ℕ
-bit rule ps folds i = byteOf (passes rule (rowAt ps folds i))
+-- the byte of row i
+abbrev pub byteAt : Rule → List Float → List Float → ℕ → ℕ
+byteAt rule ps folds i = bit (passes rule (rowAt ps folds i))
 
 -- what the laws use of a call for which no cause holds
 pub record Clear (m : ℕ) (ps folds : List Float) (room : ℕ) : Type 0 where
@@ -84,22 +91,13 @@ module _ (m : ℕ) (ps folds : List Float) (rule : Rule) (room : ℕ) where
   unfolding firstCause chooseCauses
   number-19 h k l = rw (h, k, l)
 
-  pub lengths-match : cause17 m ps folds room ≡ false → (length ps ≡ m) × (length folds ≡ m) × (m ≤ room)
-  unfolding cause17 short
-  lengths-match h =
-      let others = or-fails-r (not (eqb (length ps) m)) (not (eqb (length folds) m) || short m room) h in (
-        eqb-true (length ps) m (not-false _ (or-fails-l _ (not (eqb (length folds) m) || short m room) h)),
-        eqb-true (length folds) m (not-false _ (or-fails-l _ (short m room) others)),
-        ltb-false room m (or-fails-r (not (eqb (length folds) m)) _ others),
-      )
-
   pub none-holds : firstCause (chooseCauses m ps folds rule room) ≡ 0 → Clear m ps folds room
   unfolding chooseCauses
   none-holds h =
       let a = head-clear _ _ (omega arith) h in
       let b = head-clear _ _ (omega arith) (a .1) in
       let c = head-clear _ _ (omega arith) (b .1) in
-      let lengths = lengths-match (b .0) in
+      let lengths = lengths-match m ps folds room (b .0) in
       record { p-rows = lengths .0; fold-rows = lengths .1; places = lengths .2; rows-clear = c .0 }
 
 module _ (ps folds : List Float) (clear : cause18 ps folds ≡ false) where

@@ -20,7 +20,7 @@ abbrev pub one : Float
 one = ofBits binary64 0x3ff0_0000_0000_0000
 
 -- p at or under a cut; p from one cut to another, both included; p at or under a cut, with the fold at least f or at most -f.
--- A cut is what the field calls a threshold of the p-value, and f one of the log fold change.
+-- Laboratories call a cut a threshold of the p-value, and f one of the log fold change.
 unfoldable pub passes : Rule → Row → Bool
 passes (AtMost cut) row = le (row .p) cut
 passes (Between low high) row = le low (row .p) && le (row .p) high

@@ -59,7 +59,7 @@ fn bad_row(row: Row) -> bool
     off_scale(row.p) | not_finite(row.fold)
 }
 
-// The same, of some row. The loop has no way out, and `bad_row` no branch: several rows are then judged at once.
+// The same, of some row. The loop is not left early and `bad_row` has no branch, so that the compiler can judge several rows at once.
 fn bad_rows(p_values: &[f64], folds: &[f64]) -> bool
     requires { ⌜ length (now «p_values») ≡ length (now folds) ⌝ }
     ensures { λ r. ⌜ r ≡ cause18 (now («p_values» .entry)) (now (folds .entry)) ⌝ }
@@ -82,7 +82,7 @@ fn bad_rule(rule: Rule) -> bool
     match rule {
         Rule::AtMost(cut) => no_number(cut),
         Rule::Between(low, high) => no_number(low) || no_number(high),
-        Rule::Volcano(cut, fold) => no_number(cut) || (no_number(fold) || fold < 0.0),
+        Rule::Volcano(cut, f) => no_number(cut) || (no_number(f) || f < 0.0),
     }
 }
 

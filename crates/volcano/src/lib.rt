@@ -30,7 +30,7 @@ pub fn passes(rule: Rule, row: Row) -> bool
     match rule {
         Rule::AtMost(cut) => row.p <= cut,
         Rule::Between(low, high) => low <= row.p && row.p <= high,
-        Rule::Volcano(cut, fold) => row.p <= cut && (fold <= row.fold || row.fold <= -fold),
+        Rule::Volcano(cut, f) => row.p <= cut && (f <= row.fold || row.fold <= -f),
     }
 }
 

@@ -1,14 +1,13 @@
 -- The walk along a path: what the regions can take, the marks and the entries after each step.
 use Prim.Native.Nat.{ℕ, zero, suc, _+_, _-_, _*_, _<_, _≤_}
 use mathlib.Core.Bool.{Bool, true, false, not, cond}
-use mathlib.Core.List.{List, [], _∷_, _++_}
+use mathlib.Core.List.{List, _++_}
 use mathlib.Core.Logic.{⊎-elim}
-use mathlib.Core.Path.{_≡_, refl, sym, ap, subst, _∙_}
+use mathlib.Core.Path.{_≡_, refl, sym, subst, _∙_}
 use native.Mathlib.Nat.{mul-le-mul}
 use native.Mathlib.Numerals.{add-one}
 use native.Mathlib.Omega.{arith}
-use lib.ListN.{length, getD, drop, set, List·getD-append}
-use lib.Seq.{drop-cons, set-at, append-snoc, drop-set-lt}
+use lib.ListN.{length, getD, List·getD-append}
 use lib.Dec.{leb, eqb}
 use borrow.Author.Tests.{eqb-true, eq-eqb}
 use Rattle.reader.specs.Lists.{tabulate}
@@ -141,27 +140,6 @@ module _ {F : Family} {path : List ℕ} (well : WellFormed F) (is : Distinct (F 
   -- the leaf of a place's peptide is one of the leaves
   pub leaf-few : (t : ℕ) → t < length path → leafOf F (getD path t 0) ≤ leaves F
   leaf-few t h = leaf-found F (getD path t 0) (is .some t h) (omega (arith, is .most t h, well .lengths-sum)) .leaf
-
--- Lists that are written from the start.
-
-tabulate-more : (n : ℕ) (f : ℕ → ℕ) → tabulate (suc n) f ≡ tabulate n f ++ (f n ∷ [])
-unfolding tabulate
-tabulate-more zero f = refl
-tabulate-more (suc n) f = ap (λ (l : List ℕ). f 0 ∷ l) (tabulate-more n (λ i. f (suc i)))
-
-pub write-more : (f : ℕ → ℕ) (xs : List ℕ) (n v : ℕ) → n < length xs → v ≡ f n
-    → set (tabulate n f ++ drop n xs) n v ≡ tabulate (n + 1) f ++ drop (n + 1) xs
-write-more f xs n v h e =
-    rw (e, drop-cons xs n 0 h, set-at (tabulate n f) (getD xs n 0) (drop (suc n) xs) (f n) n (length-tabulate n f), add-one n, tabulate-more n f)
-    (sym (append-snoc (tabulate n f) (f n) (drop (suc n) xs)))
-
-pub write-none : (f : ℕ → ℕ) (xs : List ℕ) → xs ≡ tabulate 0 f ++ drop 0 xs
-unfolding tabulate
-write-none f xs = refl
-
-pub write-first : (f : ℕ → ℕ) (xs : List ℕ) (v : ℕ) → 0 < length xs → v ≡ f 0 → set xs 0 v ≡ tabulate (0 + 1) f ++ drop (0 + 1) (set xs 0 v)
-unfolding tabulate
-write-first f xs v h e = rw (drop-set-lt 1 xs 0 v (omega arith)) (write-more f xs 0 v h e)
 
 -- The entries, from the marks.
 

@@ -8,25 +8,26 @@ use lib.ListN.{length, drop, set, length-set}
 use mir.Val.{boolByte}
 use denote.Ref.{now}
 use Rattle.reader.specs.Lists.{tabulate}
-use Rattle.bounds.proofs.Walking.Steps.{write-none, write-more}
+use Rattle.reader.proofs.Lists.{write-none, write-more}
+use Rattle.bounds.proofs.Basics.Members.{bit}
 use Rattle.volcano.specs.Rules.{rowAt, chosen}
-use Rattle.volcano.proofs.Judging.{byteOf, bit}
+use Rattle.volcano.proofs.Judging.{byteAt}
 use borrow.Author.Needs.{needs}
 use Rattle.volcano.proofs.write_chosen.Statement.{statement}
 use Rattle.volcano.proofs.write_chosen.Tie as tie
 
-byte-is : (b : Bool) → boolByte b ≡ byteOf b
+byte-is : (b : Bool) → boolByte b ≡ bit b
 byte-is true = refl
 byte-is false = refl
 
 abbrev Inv-loop : tie.InvT-loop
-Inv-loop ps folds rule out₀ i₀ out i = (i ≤ length ps) × (length out ≡ length out₀) × (out ≡ tabulate i (bit rule ps folds) ++ drop i out₀)
+Inv-loop ps folds rule out₀ i₀ out i = (i ≤ length ps) × (length out ≡ length out₀) × (out ≡ tabulate i (byteAt rule ps folds) ++ drop i out₀)
 
 abbrev μ-loop : tie.MeasureT-loop
 μ-loop ps folds rule out₀ i₀ out i = length ps - i
 
 loop-holds : tie.Need-loop-holds Inv-loop μ-loop
-loop-holds c = (omega arith, refl, write-none (bit _ _ _) _)
+loop-holds c = (omega arith, refl, write-none (byteAt _ _ _) _)
 
 mul-p : tie.Need-mul-p Inv-loop μ-loop
 mul-p c = search needs
@@ -69,7 +70,7 @@ loop-again c =
     let b = c .passes .result in (
       omega arith,
       simp length-set (inv .1),
-      ap (λ (l : List ℕ). set l i (boolByte b)) (inv .2) ∙ write-more (bit rule ps folds) out i (boolByte b) (omega (arith, c .before .before .before .before .before .before .before .before .pre .1)) (byte-is b ∙ ap byteOf (c .passes .ensures)),
+      ap (λ (l : List ℕ). set l i (boolByte b)) (inv .2) ∙ write-more (byteAt rule ps folds) out i (boolByte b) (omega (arith, c .before .before .before .before .before .before .before .before .pre .1)) (byte-is b ∙ ap bit (c .passes .ensures)),
     )
 
 same-length : tie.Need-same-length Inv-loop μ-loop

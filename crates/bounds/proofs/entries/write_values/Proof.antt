@@ -8,7 +8,8 @@ use lib.Seq.{drop-set-lt}
 use denote.Ref.{now}
 use Rattle.reader.specs.Lists.{tabulate}
 use Rattle.bounds.specs.Private.Walks.{marksUpTo}
-use Rattle.bounds.proofs.Walking.Steps.{marks-none, marks-more, write-first, write-more}
+use Rattle.reader.proofs.Lists.{write-first, write-more}
+use Rattle.bounds.proofs.Walking.Steps.{marks-none, marks-more}
 use borrow.Author.Needs.{needs}
 use Rattle.bounds.proofs.entries.write_values.Statement.{statement}
 use Rattle.bounds.proofs.entries.write_values.Tie as tie

@@ -7,13 +7,13 @@ use lib.ListN.{length, take, drop, set, length-set, length-replicate}
 use denote.Ref.{now}
 use Rattle.reader.specs.Lists.{tabulate}
 use Rattle.reader.specs.Family.{familyOf}
-use Rattle.reader.proofs.Lists.{zeros}
+use Rattle.reader.proofs.Lists.{write-none, write-more, zeros}
 use Rattle.bounds.specs.Ranges.{rangesOf}
 use Rattle.bounds.specs.Curves.{markAt, curveMarks}
 use Rattle.bounds.specs.Private.Walks.{InnermostAtLeaves}
 use Rattle.bounds.proofs.Basics.Counting.{none}
 use Rattle.bounds.proofs.Theory.Greedy.{greedy}
-use Rattle.bounds.proofs.Walking.Steps.{SpareFor, spare-start, leaf-few, next, write-none, write-more}
+use Rattle.bounds.proofs.Walking.Steps.{SpareFor, spare-start, leaf-few, next}
 use borrow.Author.Needs.{needs}
 use Rattle.bounds.proofs.walk.mark_path.Statement.{statement}
 use Rattle.bounds.proofs.walk.mark_path.Tie as tie
