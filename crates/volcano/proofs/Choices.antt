@@ -40,8 +40,10 @@ pub record Selects (m : ℕ) (ps folds : List Float) (rule : Rule) (out new : Li
   pub peptides : (i : ℕ) → i < m → selected (take m new) (suc i) ≡ passes rule (rowAt ps folds i)
   pub rest : drop m new ≡ drop m out
 
--- Two rules that every call answers alike, with the same number and the same bytes.
+-- Two rules that the same rows pass, of those that are accepted, and that every call answers alike, with the same number and the same
+-- bytes.
 pub record Alike (a b : Rule) : Type 0 where
+  pub rows : (row : Row) → offScale (row .p) ≡ false → notFinite (row .fold) ≡ false → passes a row ≡ passes b row
   pub number : (m : ℕ) (ps folds : List Float) (room : ℕ) → firstCause (chooseCauses m ps folds a room) ≡ firstCause (chooseCauses m ps folds b room)
   pub bytes : (m : ℕ) (ps folds : List Float) (out : List ℕ)
       → written (chooseCauses m ps folds a (length out)) (chosen a ps folds) out ≡ written (chooseCauses m ps folds b (length out)) (chosen b ps folds) out
@@ -146,7 +148,7 @@ module _ (a b : Rule) (same-cause : cause19 a ≡ cause19 b) (same-rows : (row :
       (none-or-some A)
 
   alike : Alike a b
-  alike = record { number = same-number; bytes = same-bytes }
+  alike = record { rows = same-rows; number = same-number; bytes = same-bytes }
 
 or-nothing : (b : Bool) → b || false ≡ b
 or-nothing true = refl
