@@ -185,7 +185,7 @@ phf_bounded phf_bound(const uint8_t *file, size_t file_len,
  * A row passes
  *   phf_choose_at_most   if p[i] <= cut;
  *   phf_choose_between   if low <= p[i] and p[i] <= high: none does if low is above high, and that is no refusal;
- *   phf_choose_volcano   if p[i] <= cut and also folds[i] >= fold or folds[i] <= -fold.
+ *   phf_choose_volcano   if p[i] <= cut and (folds[i] >= fold or folds[i] <= -fold).
  *
  * Cuts may be any number, infinite ones too; fold may be any that is not under 0. 0.0 and -0.0 are equal everywhere.
  */
