@@ -11,3 +11,4 @@ pub mod phf;
 pub mod programs;
 pub mod random;
 pub mod reference;
+pub mod stack;

@@ -5,18 +5,19 @@ use native.Mathlib.Nat.{eq-or-lt-of-le}
 use native.Mathlib.Numerals.{add-one}
 use mathlib.Core.List.{List}
 use mathlib.Core.Path.{_≡_, refl, sym, ap, ap₂, _∙_}
-use mathlib.Core.Logic.{⊎-elim}
+use mathlib.Core.Bool.{Bool, cond}
+use mathlib.Core.Logic.{_⊎_, inl, inr, ⊎-elim}
 use lib.ListN.{length, getD, drop, drop-of-length-le}
 use lib.Seq.{drop-cons, take-all}
 use lib.Dec.{leb, ltb}
-use borrow.Author.Tests.{ltb-true, ltb-false, leb-true, leb-false, le-leb, lt-leb}
+use borrow.Author.Tests.{ltb-true, ltb-false, le-ltb, leb-true, leb-false, le-leb, lt-leb}
 use Rattle.reader.specs.Lists.{sum}
 use Rattle.reader.specs.Bytes.{numberAt}
 use Rattle.reader.specs.Family.{Family, familyOf, leaves, leafLength, leafAfter, leafOf, peptidesUpTo}
-use Rattle.reader.specs.Private.InPlace.{eightLengths}
+use Rattle.reader.specs.Private.Walking.{added, Capped, FoundAfter}
 use Rattle.reader.proofs.Bools.{test}
 use Rattle.reader.proofs.Lists.{sum-take-suc}
-use Rattle.reader.proofs.Parsed.{length-leaf, length-number}
+use Rattle.reader.proofs.Parsed.{leaves-read, length-leaf, length-number}
 
 module _ (F : Family) where
   pub walk-starts : (p : ℕ) → leafOf F p ≡ leafAfter 0 (drop 0 (F .lengths)) p
@@ -120,31 +121,125 @@ module _ (F : Family) where
 
 -- The lengths in a file.
 module _ (s : List ℕ) where
-  one-more : (j i at : ℕ) → j < numberAt s 6 → i ≡ j + 1 → at ≡ 16 + 2 * j → peptidesUpTo (familyOf s) i ≡ peptidesUpTo (familyOf s) j + numberAt s at
-  one-more j i at l e a =
-      ap (peptidesUpTo (familyOf s)) e ∙ up-to-next (familyOf s) j
-      ∙ ap (λ (n : ℕ). peptidesUpTo (familyOf s) j + n) (length-number s j l ∙ ap (numberAt s) (sym a))
-
-  eight-more : (j : ℕ) → j + 8 ≤ numberAt s 6 → peptidesUpTo (familyOf s) (j + 8) ≡ peptidesUpTo (familyOf s) j + eightLengths s (16 + 2 * j)
-  unfolding eightLengths
-  eight-more j l =
-      let at = 16 + 2 * j in
+  -- n lengths more
+  pub added-more :
+      (n j : ℕ) → j + n ≤ numberAt s 6 → peptidesUpTo (familyOf s) (j + n) ≡ peptidesUpTo (familyOf s) j + added s (16 + 2 * j) n
+  unfolding added
+  added-more zero j l =
+      let here : j + 0 ≡ j = omega arith in
+      omega (arith, ap (peptidesUpTo (familyOf s)) here)
+  added-more (suc n) j l =
+      let next : j + suc n ≡ j + n + 1 = omega arith in
+      let at : 16 + 2 * (j + n) ≡ 16 + 2 * j + 2 * n = omega arith in
       omega (
         arith,
-        one-more j (j + 1) at (omega arith) refl refl,
-        one-more (j + 1) (j + 2) (at + 2) (omega arith) (omega arith) (omega arith),
-        one-more (j + 2) (j + 3) (at + 4) (omega arith) (omega arith) (omega arith),
-        one-more (j + 3) (j + 4) (at + 6) (omega arith) (omega arith) (omega arith),
-        one-more (j + 4) (j + 5) (at + 8) (omega arith) (omega arith) (omega arith),
-        one-more (j + 5) (j + 6) (at + 10) (omega arith) (omega arith) (omega arith),
-        one-more (j + 6) (j + 7) (at + 12) (omega arith) (omega arith) (omega arith),
-        one-more (j + 7) (j + 8) (at + 14) (omega arith) (omega arith) (omega arith),
+        ap (peptidesUpTo (familyOf s)) next,
+        up-to-next (familyOf s) (j + n),
+        length-number s (j + n) (omega arith),
+        ap (numberAt s) at,
+        added-more n j (omega arith),
       )
 
-  pub sixteen-more :
-      (j : ℕ) → j + 16 ≤ numberAt s 6
-      → peptidesUpTo (familyOf s) (j + 16) ≡ peptidesUpTo (familyOf s) j + eightLengths s (16 + 2 * j) + eightLengths s (16 + 2 * j + 16)
-  sixteen-more j l =
-      let there : j + 8 + 8 ≡ j + 16 = omega arith in
-      let at : 16 + 2 * (j + 8) ≡ 16 + 2 * j + 16 = omega arith in
-      omega (arith, eight-more j (omega arith), eight-more (j + 8) (omega arith), ap (peptidesUpTo (familyOf s)) there, ap (eightLengths s) at)
+  -- and n more after m of them
+  pub added-on : (n at m : ℕ) → added s at (m + n) ≡ added s at m + added s (at + 2 * m) n
+  unfolding added
+  added-on zero at m = let here : m + 0 ≡ m = omega arith in omega (arith, ap (added s at) here)
+  added-on (suc n) at m =
+      let next : m + suc n ≡ suc (m + n) = omega arith in
+      let there : at + 2 * (m + n) ≡ at + 2 * m + 2 * n = omega arith in
+      ap (added s at) next ∙ omega (arith, added-on n at m, ap (numberAt s) there)
+
+  pub added-next : (at n : ℕ) → added s at (n + 1) ≡ added s at n + numberAt s (at + 2 * n)
+  unfolding added
+  added-next at n = rw (add-one n) refl
+
+  pub added-eight :
+      (at : ℕ)
+      → added s at 8
+      ≡ numberAt s at + numberAt s (at + 2) + numberAt s (at + 4) + numberAt s (at + 6)
+      + numberAt s (at + 8) + numberAt s (at + 10) + numberAt s (at + 12) + numberAt s (at + 14)
+  unfolding added
+  added-eight at = let first : at + 2 * 0 ≡ at = omega arith in omega (arith, ap (numberAt s) first)
+
+  -- one row of eight more
+  pub row-more : (at row : ℕ) → added s at (8 * (row + 1)) ≡ added s at (8 * row) + added s (at + 16 * row) 8
+  row-more at row =
+      let next : 8 * (row + 1) ≡ 8 * row + 8 = omega arith in
+      let there : at + 2 * (8 * row) ≡ at + 16 * row = omega arith in
+      ap (added s at) next ∙ omega (arith, added-on 8 at (8 * row), ap (λ (o : ℕ). added s o 8) there)
+
+-- Capped sums.
+
+pub capped-as : {S T L R : ℕ} → S ≡ T → L ≡ R → Capped S L → Capped T R
+capped-as e d h = record { most = omega (arith, h .most); exact = λ small. omega (arith, h .exact (omega arith)) }
+
+pub capped-both : {S T L R : ℕ} → Capped S L → Capped T R → Capped (S + T) (L + R)
+capped-both one other =
+    record {
+      most = omega (arith, one .most, other .most);
+      exact = λ small. omega (arith, one .exact (omega arith), other .exact (omega arith));
+    }
+
+-- to a capped sum L of S the number X is added
+pub capped-more : {S L R : ℕ} (X : ℕ) → Capped S L → Capped (L + X) R → Capped (S + X) R
+capped-more X before here =
+    record {
+      most = omega (arith, before .most, here .most);
+      exact = λ small. let sum = here .exact small in omega (arith, sum, before .exact (omega (arith, sum)));
+    }
+
+-- Counting the leaves after leaf j up to which the lengths add to less than p: all i of them do, or those before the leaf that
+-- is looked for are counted.
+abbrev pub CountedTo : Family → ℕ → ℕ → ℕ → ℕ → ℕ → Type 0
+CountedTo F j p i so-far count = ((so-far < p) × (count ≡ i)) ⊎ ((p ≤ so-far) × (count ≤ i - 1) × FoundAfter F j p (j + count + 1))
+
+pub counted-none : (F : Family) (j p : ℕ) → j < leaves F → CountedTo F j p 0 0 0
+counted-none F j p l =
+    ⊎-elim (λ t. inl (ltb-true 0 p t, refl))
+    (λ f.
+    let none = ltb-false 0 p f in
+    inr (none, omega arith, sym (walk-stops F j p l (omega arith) ∙ omega arith)))
+    (test (ltb 0 p))
+
+pub counted-more :
+    (s : List ℕ) (j p i so-far count : ℕ)
+    → j + i < numberAt s 6
+    → so-far ≡ added s (16 + 2 * j) i
+    → CountedTo (familyOf s) j p i so-far count
+    → (next : ℕ)
+    → next ≡ so-far + numberAt s (16 + 2 * j + 2 * i)
+    → (one : ℕ)
+    → one ≡ cond (ltb next p) 1 0
+    → CountedTo (familyOf s) j p (i + 1) next (count + one)
+counted-more s j p i so-far count l e (inl (less, all)) next more one o =
+    ⊎-elim
+    (λ t.
+    let counted : one ≡ 1 = o ∙ ap (λ (b : Bool). cond b 1 0) t in
+    inl (ltb-true next p t, omega (arith, counted, all)))
+    (λ f.
+    let F = familyOf s in
+    let over = ltb-false next p f in
+    let none : one ≡ 0 = o ∙ ap (λ (b : Bool). cond b 1 0) f in
+    let at : 16 + 2 * (j + i) ≡ 16 + 2 * j + 2 * i = omega arith in
+    let length = length-number s (j + i) l in
+    let end : j + i + 1 ≡ j + (count + one) + 1 = omega (arith, none, all) in
+    inr (
+      over,
+      omega (arith, none, all),
+      sym
+          (walk-passes F i j p (p - so-far) (omega (arith, leaves-read s)) (omega (arith, added-more s i j (omega arith))) (omega arith)
+          ∙ walk-stops F (j + i) (p - so-far) (omega (arith, leaves-read s)) (omega (arith, length, ap (numberAt s) at))
+          ∙ end),
+    ))
+    (test (ltb next p))
+counted-more s j p i so-far count l e (inr (over, few, found)) next more one o =
+    let none : one ≡ 0 = o ∙ ap (λ (b : Bool). cond b 1 0) (le-ltb next p (omega arith)) in
+    let same : j + (count + one) + 1 ≡ j + count + 1 = omega (arith, none) in
+    inr (omega arith, omega (arith, none), same ∙ found)
+
+-- where they add to p or more, the leaf is found
+pub counted-all :
+    (F : Family) (j p i so-far count : ℕ)
+    → p ≤ so-far → CountedTo F j p i so-far count → (count ≤ i - 1) × FoundAfter F j p (j + count + 1)
+counted-all F j p i so-far count over (inl (less, all)) = absurd (omega arith)
+counted-all F j p i so-far count over (inr (reached, few, found)) = (few, found)

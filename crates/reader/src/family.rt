@@ -1,11 +1,14 @@
 // Leaves, peptides and regions of a family file.
 use crate::bytes::number_at;
 use crate::bytes::number_within;
+use crate::leaf_walk::Passed;
+use crate::leaf_walk::leaf_by_leaf;
+use crate::leaf_walk::leaf_of_sixteen;
+use crate::leaf_walk::pass_blocks;
 ghost use mathlib.Core.Path.{_≡_};
 ghost use Prim.Native.Nat.{_+_, _<_, _≤_};
 ghost use lib.ListN.{length};
 ghost use Rattle.reader.specs.Family.{familyOf, leaves, regionCount, leafLength, leafOf, noRegion, region, totalLength};
-ghost use Rattle.reader.specs.Private.InPlace.{eightLengths, FoundAfter};
 ghost use Rattle.reader.specs.Calls.{held};
 
 // The number of a leaf, 1 to N.
@@ -56,74 +59,30 @@ pub fn leaf_length(file: &[u8], leaf: Leaf) -> u16
     number_at(file, 14 + 2 * (j as usize))
 }
 
-// Where a walk along the leaf lengths stands: the last leaf passed, 0 before the first, and the peptide's number less the
-// peptides passed.
-struct Passed {
-    leaf: Leaf,
-    left: u16,
-}
-
-// The lengths of eight leaves added up, from the offset of the first one.
-fn eight_lengths(file: &[u8], at: usize) -> u32
-    requires { ⌜ at + 16 ≤ length (now file) ⌝ }
-    ensures { λ r. ⌜ r ≡ eightLengths (now (file .entry)) at ⌝ }
-    ensures { λ r. ⌜ r ≤ 524280 ⌝ }
-{
-    let a = (number_within(file, at) as u32) + (number_within(file, at + 2) as u32);
-    let b = (number_within(file, at + 4) as u32) + (number_within(file, at + 6) as u32);
-    let c = (number_within(file, at + 8) as u32) + (number_within(file, at + 10) as u32);
-    let d = (number_within(file, at + 12) as u32) + (number_within(file, at + 14) as u32);
-    a + b + c + d
-}
-
-// Passes sixteen leaves at a time, while these end before the peptide: a walk spends most of its time here.
-fn pass_sixteens(file: &[u8], peptide: Peptide) -> Passed
-    ensures { λ r. ⌜ FoundAfter (familyOf (now (file .entry))) (peptide .0) (r .leaf .0) (r .left) ⌝ }
-{
-    let leaves = leaf_count(file);
-    let mut left = peptide.0;
-    let mut j = 0;
-    if file.len() < 16 + 2 * (leaves as usize) {
-        return Passed {
-            leaf: Leaf(j),
-            left,
-        };
-    }
-    while 16 <= leaves - j {
-        let at = 16 + 2 * (j as usize);
-        let sum = eight_lengths(file, at) + eight_lengths(file, at + 16);
-        if (left as u32) <= sum {
-            return Passed {
-                leaf: Leaf(j),
-                left,
-            };
-        }
-        left = left - (sum as u16);
-        j += 16;
-    }
-    Passed {
-        leaf: Leaf(j),
-        left,
-    }
-}
-
-// The leaf of a peptide, found by walking the leaf lengths; leaf 0 where they end before it.
+// The leaf of a peptide, found by walking the leaf lengths; leaf 0 where they end before it. Few leaves, and those of a file that
+// lacks some, are walked one by one.
 pub fn leaf_of(file: &[u8], peptide: Peptide) -> Leaf
     ensures { λ r. ⌜ r .0 ≡ leafOf (familyOf (now (file .entry))) (peptide .0) ⌝ }
 {
     let leaves = leaf_count(file);
-    let passed = pass_sixteens(file, peptide);
-    let mut left = passed.left;
-    let mut j = passed.leaf.0;
-    while j < leaves {
-        let length = number_at(file, 16 + 2 * (j as usize));
-        if left <= length {
-            return Leaf(j + 1);
-        }
-        left = left - length;
-        j += 1;
+    let start = Passed {
+        leaf: Leaf(0),
+        left: peptide.0,
+    };
+    if leaves < 16 {
+        return leaf_by_leaf(file, start);
     }
-    Leaf(0)
+    if file.len() < 16 + 2 * (leaves as usize) {
+        return leaf_by_leaf(file, start);
+    }
+    let far = pass_blocks(file, start, 8);
+    let near = pass_blocks(file, far, 2);
+    let passed = near.leaf.0;
+    if leaves - passed < 16 {
+        leaf_by_leaf(file, near)
+    } else {
+        leaf_of_sixteen(file, near)
+    }
 }
 
 // The k-th region, where the file is known to have it: the check has compared the length with the header by then, and

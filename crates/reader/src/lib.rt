@@ -3,6 +3,7 @@
 pub mod bytes;
 mod causes;
 pub mod family;
+mod leaf_walk;
 mod nesting;
 
 use causes::bad_lengths;

@@ -1,102 +1,82 @@
--- The loop walks the leaves on from where the sixteens end: what is left of the peptide's number is to be found from leaf j on.
-use Prim.Native.Nat.{ℕ, _≤_, _-_, _+_}
+-- The walk starts before the first leaf, and each part of it goes on from where the one before has stopped.
 use native.Mathlib.Omega.{arith}
-use mathlib.Core.Path.{_≡_, refl, sym, ap, _∙_}
-use lib.ListN.{drop}
-use denote.Ref.{now}
-use Rattle.reader.specs.Family.{familyOf, leaves, leafAfter}
-use Rattle.reader.proofs.Parsed.{leaves-read, length-number}
-use Rattle.reader.proofs.Walk.{walk-stops, walk-goes-on, walk-ends}
+use mathlib.Core.Path.{sym, _∙_}
+use Rattle.reader.proofs.Walk.{walk-starts}
 use borrow.Author.Needs.{needs}
 use Rattle.reader.proofs.family.leaf_of.Statement.{statement}
 use Rattle.reader.proofs.family.leaf_of.Tie as tie
 
-abbrev Inv-loop : tie.InvT-loop
-Inv-loop file n left₀ j₀ left j =
-    (n ≡ leaves (familyOf file))
-    × (j ≤ n)
-    × (leafAfter j₀ (drop j₀ (familyOf file .lengths)) left₀ ≡ leafAfter j (drop j (familyOf file .lengths)) left)
-
-abbrev μ-loop : tie.MeasureT-loop
-μ-loop file n left₀ j₀ left j = n - j
-
-leaf-count-requires : tie.Need-leaf-count-requires Inv-loop μ-loop
+leaf-count-requires : tie.Need-leaf-count-requires
 leaf-count-requires c κs = search needs
 
-pass-sixteens-requires : tie.Need-pass-sixteens-requires Inv-loop μ-loop
-pass-sixteens-requires c κs = search needs
+leaf-by-leaf-requires : tie.Need-leaf-by-leaf-requires
+leaf-by-leaf-requires c κs = search needs
 
-loop-holds : tie.Need-loop-holds Inv-loop μ-loop
-loop-holds c = (c .before .leaf-count .ensures, omega (arith, c .pass-sixteens .ensures .leaf, c .before .leaf-count .ensures), refl)
+returns : tie.Need-returns
+returns c = c .leaf-by-leaf .ensures ∙ sym (walk-starts _ _)
 
-cast-number-at : tie.Need-cast-number-at Inv-loop μ-loop
-cast-number-at c = search needs
+cast-if2 : tie.Need-cast-if2
+cast-if2 c = search needs
 
-mul-number-at : tie.Need-mul-number-at Inv-loop μ-loop
-mul-number-at c = search needs
+mul-if2 : tie.Need-mul-if2
+mul-if2 c = search needs
 
-add-number-at : tie.Need-add-number-at Inv-loop μ-loop
-add-number-at c = search needs
+add-if2 : tie.Need-add-if2
+add-if2 c = search needs
 
-number-at-requires : tie.Need-number-at-requires Inv-loop μ-loop
-number-at-requires c κs = search needs
+leaf-by-leaf-requires-2 : tie.Need-leaf-by-leaf-requires-2
+leaf-by-leaf-requires-2 c κs = search needs
 
-add-t12 : tie.Need-add-t12 Inv-loop μ-loop
-add-t12 c = omega (arith, c .before .before .before .before .before .leaf-count .ok)
+returns-2 : tie.Need-returns-2
+returns-2 c = c .leaf-by-leaf2 .ensures ∙ sym (walk-starts _ _)
 
-returns : tie.Need-returns Inv-loop μ-loop
-returns c =
-    let s = now (c .before .before .before .before .before .before .before .args .file) in
-    let j = c .before .before .before .loop .j in
-    let inv = c .before .before .before .loop .inv in
-    let l = length-number s j (omega (arith, leaves-read s, inv .0)) in
-    sym (c .before .before .before .before .pass-sixteens .ensures .found ∙ inv .2 ∙ walk-stops (familyOf s) j (c .before .before .before .loop .left) (omega (arith, inv .0)) (omega arith))
+pass-blocks-requires : tie.Need-pass-blocks-requires
+pass-blocks-requires c κs = search needs
 
-sub-left : tie.Need-sub-left Inv-loop μ-loop
-sub-left c = search needs
+pass-blocks-requires-2 : tie.Need-pass-blocks-requires-2
+pass-blocks-requires-2 c κs = search needs
 
-add-j : tie.Need-add-j Inv-loop μ-loop
-add-j c = omega (arith, c .before .before .before .before .before .leaf-count .ok)
+sub-if3 : tie.Need-sub-if3
+sub-if3 c = search needs
 
-loop-less : tie.Need-loop-less Inv-loop μ-loop
-loop-less c = search needs
+leaf-by-leaf-requires-3 : tie.Need-leaf-by-leaf-requires-3
+leaf-by-leaf-requires-3 c κs = search needs
 
-loop-again : tie.Need-loop-again Inv-loop μ-loop
-loop-again c =
-    let s = now (c .before .before .before .before .before .before .before .args .file) in
-    let j = c .before .before .before .loop .j in
-    let inv = c .before .before .before .loop .inv in
-    let l = length-number s j (omega (arith, leaves-read s, inv .0)) in (
-      inv .0,
-      omega arith,
-      inv .2
-          ∙ walk-goes-on (familyOf s) j (c .before .before .before .loop .left) (omega (arith, inv .0)) (omega arith)
-          ∙ ap (λ (x : ℕ). leafAfter (j + 1) (drop (j + 1) (familyOf s .lengths)) (c .before .before .before .loop .left - x)) (omega arith),
+leaf-of-sixteen-requires : tie.Need-leaf-of-sixteen-requires
+leaf-of-sixteen-requires c κs =
+    let few = c .before .before .before .before .before .leaf-count .ensures in
+    let near = c .before .pass-blocks2 .ensures in
+    let stop = c .if3 .left in (
+      omega (arith, few, c .before .before .before .if2 .left),
+      ((omega (arith, few, near .leaf, stop), omega (arith, few, c .before .before .before .before .before .leaf-count .ok)), near .here (omega (arith, few, near .leaf, stop))),
     )
 
-returns-2 : tie.Need-returns-2 Inv-loop μ-loop
-returns-2 c =
-    let s = now (c .before .before .before .before .before .args .file) in
-    let inv = c .before .loop .inv in
-    sym (c .before .before .pass-sixteens .ensures .found ∙ inv .2 ∙ walk-ends (familyOf s) (c .before .loop .j) (c .before .loop .left) (omega (arith, inv .0)))
+returns-3 : tie.Need-returns-3
+returns-3 c =
+    c .leaf-by-leaf3 .ensures
+    ∙ sym (walk-starts _ _ ∙ c .before .before .before .pass-blocks .ensures .same ∙ c .before .before .pass-blocks2 .ensures .same)
+
+returns-4 : tie.Need-returns-4
+returns-4 c =
+    c .leaf-of-sixteen .ensures
+    ∙ sym (walk-starts _ _ ∙ c .before .before .before .pass-blocks .ensures .same ∙ c .before .before .pass-blocks2 .ensures .same)
 
 pub leaf-of-spec : {M : Type 1} → statement M
 leaf-of-spec =
     tie.close
     (tie.spec
-    Inv-loop
-    μ-loop
     leaf-count-requires
-    pass-sixteens-requires
-    loop-holds
-    cast-number-at
-    mul-number-at
-    add-number-at
-    number-at-requires
-    add-t12
+    leaf-by-leaf-requires
     returns
-    sub-left
-    add-j
-    loop-less
-    loop-again
-    returns-2)
+    cast-if2
+    mul-if2
+    add-if2
+    leaf-by-leaf-requires-2
+    returns-2
+    pass-blocks-requires
+    pass-blocks-requires-2
+    sub-if3
+    leaf-by-leaf-requires-3
+    leaf-of-sixteen-requires
+    returns-3
+    returns-4)

@@ -1,0 +1,172 @@
+// The walk along the leaf lengths to the leaf of a peptide. Whole blocks of leaves are passed while they end before the peptide:
+// a walk spends most of its time there. What is passed is only counted, so nothing is kept of where leaves end.
+use crate::bytes::number_at;
+use crate::bytes::number_within;
+use crate::family::Leaf;
+use crate::family::leaf_count;
+ghost use mathlib.Core.Bool.{cond};
+ghost use mathlib.Core.Path.{_≡_};
+ghost use Prim.Native.Nat.{_+_, _*_, _≤_};
+ghost use lib.ListN.{length};
+ghost use lib.Dec.{ltb};
+ghost use Rattle.reader.specs.Family.{familyOf, leaves};
+ghost use Rattle.reader.specs.Private.Walking.{added, Capped, laneSum, Walked, FoundAfter, LengthsWithin};
+
+// Where a walk stands: the last leaf passed, 0 before the first, and the peptide's number less the peptides passed.
+pub(crate) struct Passed {
+    pub leaf: Leaf,
+    pub left: u16,
+}
+
+// Eight sums side by side, which the compiler adds to at once. A sum stays at 65,535 where it would pass it: a peptide's number
+// is not more, so that its leaf is not behind a block with such a sum.
+struct Lanes {
+    a: u16,
+    b: u16,
+    c: u16,
+    d: u16,
+    e: u16,
+    f: u16,
+    g: u16,
+    h: u16,
+}
+
+// The sum of two numbers, but 65,535 where it is more.
+fn capped_sum(a: u16, b: u16) -> u16
+    ensures { λ r. ⌜ Capped (a + b) r ⌝ }
+{
+    let sum = std::num::wrapping_add_u16(a, b);
+    if sum < a { 65535 } else { sum }
+}
+
+// Adds the lengths of eight leaves, one to each lane, from the offset of the first one.
+fn add_row(file: &[u8], at: usize, lanes: Lanes) -> Lanes
+    requires { ⌜ at + 16 ≤ length (now file) ⌝ }
+    ensures { λ r. ⌜ Capped (laneSum lanes + added (now (file .entry)) at 8) (laneSum r) ⌝ }
+{
+    Lanes {
+        a: capped_sum(lanes.a, number_within(file, at)),
+        b: capped_sum(lanes.b, number_within(file, at + 2)),
+        c: capped_sum(lanes.c, number_within(file, at + 4)),
+        d: capped_sum(lanes.d, number_within(file, at + 6)),
+        e: capped_sum(lanes.e, number_within(file, at + 8)),
+        f: capped_sum(lanes.f, number_within(file, at + 10)),
+        g: capped_sum(lanes.g, number_within(file, at + 12)),
+        h: capped_sum(lanes.h, number_within(file, at + 14)),
+    }
+}
+
+// The lanes added up.
+fn lane_total(lanes: Lanes) -> u32
+    ensures { λ r. ⌜ r ≡ laneSum lanes ⌝ }
+{
+    let ab = (lanes.a as u32) + (lanes.b as u32);
+    let cd = (lanes.c as u32) + (lanes.d as u32);
+    let ef = (lanes.e as u32) + (lanes.f as u32);
+    let gh = (lanes.g as u32) + (lanes.h as u32);
+    ab + cd + ef + gh
+}
+
+// The lengths of a block of leaves added up, eight in each row, from the offset of the first one. The loop has no way out:
+// each row is then added at once.
+fn block_lengths(file: &[u8], at: usize, rows: usize) -> u32
+    requires { ⌜ rows ≤ 8 ⌝ }
+    requires { ⌜ at + 16 * rows ≤ length (now file) ⌝ }
+    ensures { λ r. ⌜ Capped (added (now (file .entry)) at (8 * rows)) r ⌝ }
+{
+    let mut lanes = Lanes {
+        a: 0,
+        b: 0,
+        c: 0,
+        d: 0,
+        e: 0,
+        f: 0,
+        g: 0,
+        h: 0,
+    };
+    let mut row = 0;
+    while row < rows {
+        let next = add_row(file, at + 16 * row, lanes);
+        lanes = next;
+        row += 1;
+    }
+    lane_total(lanes)
+}
+
+// Passes blocks of so many rows, while these end before the peptide.
+pub(crate) fn pass_blocks(file: &[u8], from: Passed, rows: u16) -> Passed
+    requires { ⌜ (1 ≤ rows) × (rows ≤ 8) ⌝ }
+    requires { ⌜ LengthsWithin (now file) ⌝ }
+    requires { ⌜ from .leaf .0 ≤ leaves (familyOf (now file)) ⌝ }
+    ensures { λ r. ⌜ Walked (now (file .entry)) (8 * rows) (from .leaf .0) (from .left) (r .leaf .0) (r .left) ⌝ }
+{
+    let leaves = leaf_count(file);
+    let width = 8 * rows;
+    let mut left = from.left;
+    let mut j = from.leaf.0;
+    while width <= leaves - j {
+        let sum = block_lengths(file, 16 + 2 * (j as usize), rows as usize);
+        if (left as u32) <= sum {
+            return Passed {
+                leaf: Leaf(j),
+                left,
+            };
+        }
+        left = left - (sum as u16);
+        j += width;
+    }
+    Passed {
+        leaf: Leaf(j),
+        left,
+    }
+}
+
+// 1 if the first number is less, else 0.
+fn one_if_less(a: u32, b: u32) -> u16
+    ensures { λ r. ⌜ r ≡ cond (ltb a b) 1 0 ⌝ }
+    ensures { λ r. ⌜ r ≤ 1 ⌝ }
+{
+    if a < b { 1 } else { 0 }
+}
+
+// The leaf of the peptide where it is one of the next sixteen: it comes after those up to which the lengths add to less. All
+// sixteen are looked at, since a way out that cannot be foreseen costs more.
+pub(crate) fn leaf_of_sixteen(file: &[u8], from: Passed) -> Leaf
+    requires { ⌜ LengthsWithin (now file) ⌝ }
+    requires { ⌜ (from .leaf .0 + 16 ≤ leaves (familyOf (now file))) × (leaves (familyOf (now file)) ≤ 65535) ⌝ }
+    requires { ⌜ from .left ≤ added (now file) (16 + 2 * (from .leaf .0)) 16 ⌝ }
+    ensures { λ r. ⌜ FoundAfter (familyOf (now (file .entry))) (from .leaf .0) (from .left) (r .0) ⌝ }
+{
+    let passed = from.leaf.0;
+    let at = 16 + 2 * (passed as usize);
+    let left = from.left as u32;
+    let mut sum: u32 = 0;
+    let mut count: u16 = 0;
+    let mut i: usize = 0;
+    while i < 16 {
+        sum += number_within(file, at + 2 * i) as u32;
+        count += one_if_less(sum, left);
+        i += 1;
+    }
+    Leaf(passed + count + 1)
+}
+
+// The leaf of the peptide, looked for leaf by leaf; leaf 0 where the lengths end before it. What lies past the end of the file
+// counts as 0.
+pub(crate) fn leaf_by_leaf(file: &[u8], from: Passed) -> Leaf
+    requires { ⌜ from .leaf .0 ≤ leaves (familyOf (now file)) ⌝ }
+    ensures { λ r. ⌜ FoundAfter (familyOf (now (file .entry))) (from .leaf .0) (from .left) (r .0) ⌝ }
+{
+    let leaves = leaf_count(file);
+    let mut left = from.left;
+    let mut j = from.leaf.0;
+    while j < leaves {
+        let length = number_at(file, 16 + 2 * (j as usize));
+        if left <= length {
+            return Leaf(j + 1);
+        }
+        left = left - length;
+        j += 1;
+    }
+    Leaf(0)
+}
