@@ -31,7 +31,14 @@ impl Stack {
         assert_eq!(size % 4096, 0);
         // SAFETY: new memory, used by this value alone
         let memory = unsafe {
-            let memory = mmap(null_mut(), GUARD + size, NOTHING, PRIVATE_AND_ANONYMOUS, -1, 0);
+            let memory = mmap(
+                null_mut(),
+                GUARD + size,
+                NOTHING,
+                PRIVATE_AND_ANONYMOUS,
+                -1,
+                0,
+            );
             assert_ne!(memory as isize, -1, "no memory for a stack");
             assert_eq!(mprotect(memory.add(GUARD), size, READ_AND_WRITE), 0);
             memory as *mut u8
@@ -87,7 +94,7 @@ fn run_on(top: *mut u8, job: &mut dyn FnMut()) {
             "call {start}",
             "mov rsp, r12",
             top = in(reg) top,
-            start = in(reg) start as usize,
+            start = in(reg) start as *const (),
             in("rdi") &mut job,
             out("r12") _,
             clobber_abi("C"),

@@ -5,9 +5,8 @@ use phf_tests::families::{
     all_but_one_empty, binary_tree, binary_tree_on, chain, deepest_tree, random_family, towers,
     Bounds,
 };
-use phf_tests::guarded;
 use phf_tests::random::{cases, Random};
-use phf_tests::reference::{file_of, Family, Region, Rule};
+use phf_tests::reference::{file_of, Family};
 
 /// Every call on one family, with outputs of just the size and longer ones.
 fn all_calls(random: &mut Random, family: &Family) {
@@ -109,84 +108,4 @@ fn towers_of_sixty_four() {
         let family = towers(random, 4096, 64, Bounds::Mixed);
         all_calls(random, &family);
     });
-}
-
-/// How many regions of a family are nested in each other at most.
-fn levels(family: &Family) -> usize {
-    let inside = |leaf: usize| {
-        let has = |r: &&Region| r.first as usize <= leaf && leaf <= r.last as usize;
-        family.regions.iter().filter(has).count()
-    };
-    (1..=family.lengths.len()).map(inside).max().unwrap()
-}
-
-/// Runs a call in a thread with half a megabyte of stack. Where that is too little, the thread's name is printed.
-fn on_half_a_megabyte(name: &str, call: impl FnOnce() + Send) {
-    std::thread::scope(|scope| {
-        std::thread::Builder::new()
-            .name(name.to_string())
-            .stack_size(512 * 1024)
-            .spawn_scoped(scope, call)
-            .unwrap()
-            .join()
-            .unwrap();
-    });
-}
-
-/// Every call, with the longest path and everything selected.
-fn calls_on_half_a_megabyte(file: &[u8], path: &[u16]) {
-    let (mut values, mut marks) = ([0; 4097], [0; 4096]);
-    let (mut taken, mut out) = ([0; 8191], [0; 57354]);
-    on_half_a_megabyte("phf_check", || assert_eq!(guarded::check(file).number, 0));
-    on_half_a_megabyte("phf_regions", || assert!(guarded::regions(file).length > 0));
-    on_half_a_megabyte("phf_bound", || {
-        assert_eq!(guarded::bound(file, &[1; 4096], &mut taken).number, 0)
-    });
-    on_half_a_megabyte("phf_curve", || {
-        assert_eq!(
-            guarded::curve(file, path, &mut values, &mut marks).number,
-            0
-        )
-    });
-    on_half_a_megabyte("phf_cut", || {
-        assert_eq!(guarded::cut(file, path, 1, 10).number, 0)
-    });
-    on_half_a_megabyte("phf_reduce", || {
-        assert_eq!(guarded::reduce(file, &mut out).number, 0)
-    });
-    on_half_a_megabyte("phf_same", || assert_eq!(guarded::same(file, file).same, 1));
-    let (p_values, folds) = ([0.05; 4096], [-2.0; 4096]);
-    for (name, rule) in [
-        ("phf_choose_at_most", Rule::AtMost(0.05)),
-        ("phf_choose_between", Rule::Between(0.05, 0.1)),
-        ("phf_choose_volcano", Rule::Volcano(0.05, 2.0)),
-    ] {
-        let mut selection = [0; 4096];
-        on_half_a_megabyte(name, || {
-            assert_eq!(
-                guarded::choose(4096, &p_values, &folds, rule, &mut selection),
-                0
-            )
-        });
-        assert_eq!(selection, [1; 4096]);
-    }
-}
-
-/// The header promises that 512 KB of stack are enough; Rust's own thread takes a little of them here. What a call needs
-/// grows with the regions that are nested, so these are the deepest families: all towers, and the largest tree.
-#[test]
-fn half_a_megabyte_of_stack_is_enough_for_every_call() {
-    let random = &mut Random::new(9);
-    let path = random.order(4096);
-    for bounds in [Bounds::Small, Bounds::Mixed] {
-        let deep = [
-            towers(random, 4096, 64, bounds),
-            deepest_tree(random, bounds),
-        ];
-        assert_eq!(deep[1].regions.len(), 8191);
-        for family in deep {
-            assert_eq!(levels(&family), 64);
-            calls_on_half_a_megabyte(&file_of(&family), &path);
-        }
-    }
 }

@@ -340,6 +340,73 @@ fn source_table() {
     }
 }
 
+/// The curve with other ways to the leaf of a peptide: nearly all of its time where there are many leaves.
+fn walk_table() {
+    println!("| N | K | path | library µs | Rust, the same walk | Rust, 16 leaves at a time | Rust, table of leaves | library to 16 at a time |");
+    println!("|---|---|---|---|---|---|---|---|");
+    let random = &mut Random::new(6);
+    let up: Vec<u16> = (1..=4096).collect();
+    let mut rows = Vec::new();
+    for n in [1, 8, 16, 64, 100, 256, 512, 1024, 2048, 4096] {
+        let lengths: Vec<u16> = (0..n)
+            .map(|j| (4096 * (j + 1) / n - 4096 * j / n) as u16)
+            .collect();
+        rows.push(("random", family(&lengths, &[]), random.order(4096)));
+    }
+    let largest = binary_tree(random, 4096, 1, Bounds::Mixed);
+    rows.push(("random", largest.clone(), random.order(4096)));
+    rows.push(("1 2 3 ..", largest, up.clone()));
+    // a leaf too long for its block to be added up in 16 bits with any other stands first
+    let mut uneven = vec![1; 2048];
+    uneven[0] = 2049;
+    rows.push(("random", family(&uneven, &[]), random.order(4096)));
+    let lengths = all_but_one_empty(4096, 4096, 4096);
+    rows.push(("1 2 3 ..", family(&lengths, &[]), up));
+    for (name, family, path) in rows {
+        let input = Input::new(name, &family, path);
+        agree(&input);
+        let mut rooms = [Room::new(), Room::new(), Room::new(), Room::new()];
+        let [one, two, three, four] = &mut rooms;
+        let file = &input.file;
+        let found = measure(&mut [
+            &mut || (PAIRS[2].library)(&input, one),
+            &mut || (PAIRS[2].rust)(&input, two),
+            &mut || {
+                fast::curve_by_sixteens(
+                    black_box(file),
+                    &input.path,
+                    &mut three.values,
+                    &mut three.marks,
+                )
+            },
+            &mut || {
+                fast::curve_with_table(
+                    black_box(file),
+                    &input.path,
+                    &mut four.values,
+                    &mut four.marks,
+                )
+            },
+        ]);
+        for other in &rooms[1..] {
+            assert_eq!(
+                (&rooms[0].values, &rooms[0].marks),
+                (&other.values, &other.marks)
+            );
+        }
+        println!(
+            "| {} | {} | {name} | {} | {} | {} | {} | {:.2} |",
+            family.lengths.len(),
+            family.regions.len(),
+            micro(found[0]),
+            micro(found[1]),
+            micro(found[2]),
+            micro(found[3]),
+            found[0] / found[2]
+        );
+    }
+}
+
 /// Files made to keep the check busy.
 fn hostile_files() -> Vec<(&'static str, Vec<u8>)> {
     let random = &mut Random::new(3);
@@ -559,6 +626,8 @@ fn main() {
     let calls_met = calls_table();
     println!("\n### Selections\n");
     let met = selections_table() && calls_met;
+    println!("\n### The walk\n");
+    walk_table();
     println!("\n### The experiment of the source\n");
     source_table();
     println!("\n### Hostile files\n");
