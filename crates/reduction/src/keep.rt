@@ -290,10 +290,11 @@ fn gather(
 }
 
 // The reduced ranges in file order: the first peptide, the last one and the bound of each; returns how many there are.
+// The places of the ranges and of the parents serve the steps before: `bounds` comes with the totals in it, `from` and
+// `to` hold the weights until the kept bounds are marked, and these are marked over the parents, which only the weights need.
 pub(crate) fn list_reduced(
     file: &[u8],
-    parents: &[u16],
-    totals: &[u16],
+    parents: &mut [u16],
     live: &[u8],
     firsts: &[u16],
     lasts: &[u16],
@@ -302,17 +303,14 @@ pub(crate) fn list_reduced(
     bounds: &mut [u16],
 ) -> u16
     requires { ⌜ Parented (now file) (now parents) ⌝ }
-    requires { ⌜ Totalled (now file) (now totals) ⌝ }
+    requires { ⌜ Totalled (now file) (now bounds) ⌝ }
     requires { ⌜ Stretched (now file) (now live) (now firsts) (now lasts) ⌝ }
     requires { ⌜ regionCount (familyOf (now file)) ≤ length (now from) ⌝ }
     requires { ⌜ regionCount (familyOf (now file)) ≤ length (now to) ⌝ }
     requires { ⌜ regionCount (familyOf (now file)) ≤ length (now bounds) ⌝ }
     ensures { λ r. ⌜ Listed (now (file .entry)) r (now (from .exit)) (now (to .exit)) (now (bounds .exit)) ⌝ }
 {
-    let mut least = [0u16; 8191];
-    let mut around = [0u16; 8191];
-    let mut kept = [0u16; 8191];
-    weigh(file, parents, firsts, lasts, &mut least, &mut around);
-    mark_kept(file, totals, firsts, lasts, &least, &around, &mut kept);
-    gather(file, live, firsts, lasts, &kept, from, to, bounds)
+    weigh(file, parents, firsts, lasts, from, to);
+    mark_kept(file, bounds, firsts, lasts, from, to, parents);
+    gather(file, live, firsts, lasts, parents, from, to, bounds)
 }

@@ -66,8 +66,10 @@ fn live_totals(file: &[u8], live: &[u8], totals: &mut [u16])
     bounds::inside_totals(file, &live[0..m], totals);
 }
 
-// Reduces an accepted file.
-fn reduce_accepted(file: &[u8], parents: &[u16], out: &mut [u8]) -> Size
+// Reduces an accepted file. What is not needed at one time shares a place, which keeps the stack small: `from` and `to`
+// hold the ends of the regions until the stretches are found, then the weights, then the reduced ranges; `zs` holds the
+// totals, then the bounds of these ranges; and the place of the parents holds the kept bounds once these are known.
+fn reduce_accepted(file: &[u8], parents: &mut [u16], out: &mut [u8]) -> Size
     requires { ⌜ Parented (now file) (now parents) ⌝ }
     requires { ⌜ length (now file) ≤ length (now out) ⌝ }
     ensures { λ r. ⌜ Wrote (now (file .entry)) (now (out .entry)) (now (out .exit)) (r .bytes) (r .regions) ⌝ }
@@ -75,16 +77,22 @@ fn reduce_accepted(file: &[u8], parents: &[u16], out: &mut [u8]) -> Size
     let mut live = [0u8; 4096];
     let mut firsts = [0u16; 8191];
     let mut lasts = [0u16; 8191];
-    find_stretches(file, parents, &mut live, &mut firsts, &mut lasts);
-    let mut totals = [0u16; 8191];
-    live_totals(file, &live, &mut totals);
     let mut from = [0u16; 8191];
     let mut to = [0u16; 8191];
+    find_stretches(
+        file,
+        parents,
+        &mut from,
+        &mut to,
+        &mut live,
+        &mut firsts,
+        &mut lasts,
+    );
     let mut zs = [0u16; 8191];
+    live_totals(file, &live, &mut zs);
     let n = list_reduced(
         file,
         parents,
-        &totals,
         &live,
         &firsts,
         &lasts,
@@ -108,7 +116,7 @@ pub fn reduce(file: &[u8], out: &mut [u8]) -> ReducedFile
     if out.len() < file.len() {
         return ReducedFile::Refused(16);
     }
-    let size = reduce_accepted(file, &parents, out);
+    let size = reduce_accepted(file, &mut parents, out);
     ReducedFile::Written {
         length: size.bytes,
         regions: size.regions,
@@ -116,7 +124,12 @@ pub fn reduce(file: &[u8], out: &mut [u8]) -> ReducedFile
 }
 
 // Whether the reductions of two accepted files are equal.
-fn same_reduced(first: &[u8], first_parents: &[u16], second: &[u8], second_parents: &[u16]) -> bool
+fn same_reduced(
+    first: &[u8],
+    first_parents: &mut [u16],
+    second: &[u8],
+    second_parents: &mut [u16],
+) -> bool
     requires { ⌜ Parented (now first) (now «first_parents») ⌝ }
     requires { ⌜ Parented (now second) (now «second_parents») ⌝ }
     ensures { λ r. ⌜ r ≡ sameList (reducedFile (now (first .entry))) (reducedFile (now (second .entry))) ⌝ }
@@ -144,7 +157,7 @@ pub fn same(first: &[u8], second: &[u8]) -> Compared
     if second_cause != 0 {
         return Compared::Refused(second_cause + 100);
     }
-    if same_reduced(first, &first_parents, second, &second_parents) {
+    if same_reduced(first, &mut first_parents, second, &mut second_parents) {
         Compared::Same
     } else {
         Compared::Different

@@ -266,21 +266,23 @@ fn write_stretches(
     write_nearest(file, lows, highs, &after, &before, firsts, lasts);
 }
 
-// The live peptides, and the first and last live peptide of each region with z ≥ 1.
+// The live peptides, and the first and last live peptide of each region with z ≥ 1. The low and high ends of the regions
+// are found on the way; nobody needs them afterwards, so their places are lent and may hold anything before and after.
 pub(crate) fn find_stretches(
     file: &[u8],
     parents: &[u16],
+    lows: &mut [u16],
+    highs: &mut [u16],
     live: &mut [u8],
     firsts: &mut [u16],
     lasts: &mut [u16],
 )
     requires { ⌜ Parented (now file) (now parents) ⌝ }
+    requires { ⌜ RoomForRegions (familyOf (now file)) (now lows) (now highs) ⌝ }
     requires { ⌜ RoomForStretches (now file) (now live) (now firsts) (now lasts) ⌝ }
     ensures { λ _. ⌜ Stretched (now (file .entry)) (now (live .exit)) (now (firsts .exit)) (now (lasts .exit)) ⌝ }
 {
-    let mut lows = [0u16; 8191];
-    let mut highs = [0u16; 8191];
-    find_ends(file, parents, &mut lows, &mut highs);
-    find_live(file, &lows, &highs, live);
-    write_stretches(file, &lows, &highs, live, firsts, lasts);
+    find_ends(file, parents, lows, highs);
+    find_live(file, lows, highs, live);
+    write_stretches(file, lows, highs, live, firsts, lasts);
 }

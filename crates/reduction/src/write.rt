@@ -1,5 +1,5 @@
-// The file of the reduced ranges, written at the start of the output: where leaves end, how many end up to each peptide,
-// and from these the header, the leaf lengths and the regions.
+// The file of the reduced ranges, written at the start of the output: where its leaves end, and from this the header,
+// the leaf lengths and the regions.
 use crate::Size;
 use reader::family::peptide_count;
 ghost use mathlib.Core.Path.{_≡_};
@@ -13,7 +13,7 @@ ghost use Rattle.reader.specs.Causes.{Accepted};
 ghost use Rattle.bounds.specs.Ranges.{card};
 ghost use Rattle.reduction.specs.Reduction.{leafLengths};
 ghost use Rattle.reduction.specs.Private.Steps.{Listed};
-ghost use Rattle.reduction.specs.Private.Writing.{withNumbers, headerNumbers, OnLine, endsAt, Marks, markedIn, Counts, regionNumbers, Wrote};
+ghost use Rattle.reduction.specs.Private.Writing.{withNumbers, headerNumbers, OnLine, endsAt, Marks, markedIn, regionNumbers, Wrote};
 
 // Writes a number as two bytes, low byte first.
 fn put_number(out: &mut [u8], at: usize, n: u16)
@@ -79,19 +79,21 @@ fn mark_ends(m: u16, n: u16, from: &[u16], to: &[u16], ends: &mut [u8])
     }
 }
 
-// Counts the leaf ends up to each peptide.
-fn count_ends(m: u16, ends: &[u8], counts: &mut [u16])
-    requires { ⌜ m < length (now ends) ⌝ }
-    requires { ⌜ m < length (now counts) ⌝ }
-    requires { ⌜ getD (now counts) 0 0 ≡ 0 ⌝ }
+// How many leaves of the file to be written end after the first peptide, and up to the second.
+fn ends_between(ends: &[u8], after: u16, upto: u16) -> u16
+    requires { ⌜ after ≤ upto ⌝ }
+    requires { ⌜ upto < length (now ends) ⌝ }
     requires { ⌜ Marks (now ends) (markedIn (now ends)) ⌝ }
-    ensures { λ _. ⌜ Counts m (now (ends .entry)) (now (counts .exit)) ⌝ }
+    ensures { λ r. ⌜ r + card after (markedIn (now (ends .entry))) ≡ card upto (markedIn (now (ends .entry))) ⌝ }
 {
-    let mut p: usize = 0;
-    while p < m as usize {
-        counts[p + 1] = counts[p] + ends[p + 1] as u16;
+    let end = upto as usize;
+    let mut p = after as usize;
+    let mut count: u16 = 0;
+    while p < end {
+        count += ends[p + 1] as u16;
         p += 1;
     }
+    count
 }
 
 // Writes the length of each leaf, from one leaf end to the next.
@@ -113,35 +115,43 @@ fn write_lengths(m: u16, ends: &[u8], out: &mut [u8])
     }
 }
 
-// Writes the regions: a range begins with the leaf after those that end before it, and ends with the leaf that ends where it does.
+// Writes the regions: a range begins with the leaf after those that end before it, and ends with the leaf that ends where
+// it does. The first peptides rise, so the leaves before a range are counted on from those before the range before it.
 fn write_regions(
     m: u16,
     n: u16,
     from: &[u16],
     to: &[u16],
     bounds: &[u16],
-    counts: &[u16],
+    ends: &[u8],
     at: usize,
     out: &mut [u8],
 )
     requires { ⌜ OnLine m n (now from) (now to) ⌝ }
     requires { ⌜ n ≤ length (now bounds) ⌝ }
-    requires { ⌜ 4096 < length (now counts) ⌝ }
-    requires { ⌜ ((p : ℕ) → p ≤ m → getD (now counts) p 0 ≤ m) ⌝ }
+    requires { ⌜ m < length (now ends) ⌝ }
+    requires { ⌜ Marks (now ends) (markedIn (now ends)) ⌝ }
     requires { ⌜ at + 6 * n ≤ length (now out) ⌝ }
-    ensures { λ _. ⌜ now (out .exit) ≡ withNumbers (now (out .entry)) at (regionNumbers n (now (counts .entry)) (now (from .entry)) (now (to .entry)) (now (bounds .entry))) ⌝ }
+    ensures { λ _. ⌜ now (out .exit) ≡ withNumbers (now (out .entry)) at (regionNumbers n (markedIn (now (ends .entry))) (now (from .entry)) (now (to .entry)) (now (bounds .entry))) ⌝ }
 {
+    let mut passed: u16 = 0;
+    let mut before: u16 = 0;
     let mut k: usize = 0;
     while k < n as usize {
-        let first = counts[(from[k] - 1) as usize] + 1;
-        let last = counts[to[k] as usize];
+        let low = from[k] - 1;
+        before += ends_between(ends, passed, low);
+        passed = low;
+        let first = before + 1;
+        let last = before + ends_between(ends, low, to[k]);
         let region = [first, last, bounds[k]];
         put_numbers(out, at + 6 * k, &region);
         k += 1;
     }
 }
 
-// Writes the file of the reduced ranges at the start of the output.
+// Writes the file of the reduced ranges at the start of the output. `ends` has a byte for each peptide, 1 where that file
+// parts it from the next one. It is no table that finds the leaf of a peptide: the leaf lengths of the file to be written
+// do not exist yet, and are made from it.
 pub(crate) fn write_reduced(
     file: &[u8],
     n: u16,
@@ -158,9 +168,7 @@ pub(crate) fn write_reduced(
     let m = peptide_count(file);
     let mut ends = [0u8; 4097];
     mark_ends(m, n, from, to, &mut ends);
-    let mut counts = [0u16; 4097];
-    count_ends(m, &ends, &mut counts);
-    let leaves = counts[m as usize];
+    let leaves = ends_between(&ends, 0, m);
     let total = write_header(m, leaves, n, out);
     write_lengths(m, &ends, out);
     write_regions(
@@ -169,7 +177,7 @@ pub(crate) fn write_reduced(
         from,
         to,
         bounds,
-        &counts,
+        &ends,
         16 + 2 * (leaves as usize),
         out,
     );

@@ -7,9 +7,8 @@ use native.Mathlib.Omega.{arith}
 use lib.Dec.{eqb}
 use borrow.Author.Tests.{ne-eqb, not-true}
 use Rattle.reader.specs.Bytes.{IsBytes}
-use Rattle.reader.specs.Family.{Family, regionCount, region, familyOf}
+use Rattle.reader.specs.Family.{Family, region, familyOf}
 use Rattle.reader.specs.Causes.{Accepted}
-use Rattle.reader.specs.WellFormed.{ParentsBelow}
 use Rattle.reader.proofs.Accepting.{well-formed}
 use Rattle.bounds.specs.Ranges.{Peptides, rangeOf, rangesOf}
 use Rattle.bounds.specs.Bound.{total}
@@ -19,6 +18,7 @@ use Rattle.bounds.proofs.Basics.Counting.{SameSet}
 use Rattle.bounds.proofs.Theory.Totals.{total-same}
 use Rattle.reduction.specs.Reduction.{live}
 use Rattle.reduction.specs.Private.Steps.{Begins, liveBytes, firstLive, lastLive, firstsLive, lastsLive, Parented, Stretched, Totalled}
+use Rattle.reduction.specs.Private.Passes.{WithParents}
 use Rattle.reduction.specs.Private.Keeping.{firstAt, lastAt, WithStretches, totalAt, TotalsBelow, beginsRun}
 use Rattle.reduction.proofs.Basics.Selected.{selected-at, set-length, set-selected}
 use Rattle.reduction.proofs.Stretching.ListFronts.{begins-at, ranges-at, known-parents}
@@ -76,5 +76,5 @@ totals-at s T t k h =
 
 -- The parents.
 
-pub parents-at : (s P : List ℕ) → IsBytes s → Parented s P → ParentsBelow (familyOf s) P (regionCount (familyOf s))
-parents-at s P bytes t = known-parents (familyOf s) (well-formed s bytes (t .accepted)) P (t .parented) .known
+pub with-parents : (s P : List ℕ) → IsBytes s → Parented s P → WithParents (familyOf s) P
+with-parents s P bytes t = known-parents (familyOf s) (well-formed s bytes (t .accepted)) P (t .parented)

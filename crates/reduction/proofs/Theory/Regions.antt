@@ -27,7 +27,7 @@ region-place F r i =
 
 -- Order and nesting.
 
-order-at : (d : Range) (L : List Range) → FileOrder L → (i j : ℕ) → i < j → j < length L → Precedes (getD L i d) (getD L j d)
+pub order-at : (d : Range) (L : List Range) → FileOrder L → (i j : ℕ) → i < j → j < length L → Precedes (getD L i d) (getD L j d)
 order-at d [] o i j h k = absurd (omega arith)
 order-at d (x ∷ L) o i zero h k = absurd (omega arith)
 order-at d (x ∷ L) o zero (suc j) h k = o .0 (getD L j d) (in-at d L j (omega arith))

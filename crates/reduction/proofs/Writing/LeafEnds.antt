@@ -1,10 +1,9 @@
--- The leaf ends marked in a list of bytes, their counts, the leaf lengths between them and the regions' numbers, one step at a time.
-use Prim.Native.Nat.{ℕ, zero, suc, _+_, _*_, _-_, _<_, _≤_}
+-- The leaf ends marked in a list of bytes, their number, the leaf lengths between them and the regions' numbers, one step at a time.
+use Prim.Native.Nat.{ℕ, zero, suc, _+_, _*_, _-_, _<_}
 use mathlib.Core.Bool.{Bool, true, false, cond, _||_}
 use mathlib.Core.List.{List, [], _∷_, _++_, append-nil}
 use mathlib.Core.Logic.{⊎-elim}
 use mathlib.Core.Path.{_≡_, refl, sym, ap, _∙_}
-use native.Mathlib.Nat.{eq-or-lt-of-le}
 use native.Mathlib.Numerals.{add-one}
 use native.Mathlib.Omega.{arith}
 use lib.ListN.{length, getD, set, length-append, length-set}
@@ -14,9 +13,8 @@ use borrow.Author.Tests.{eqb-true, eqb-false}
 use Rattle.reader.specs.Lists.{someBelow}
 use Rattle.bounds.specs.Ranges.{Peptides, card}
 use Rattle.bounds.proofs.Basics.Members.{test, eqb-bit}
-use Rattle.bounds.proofs.Basics.Counting.{card-most}
 use Rattle.reduction.specs.Reduction.{rising, lastOf, leafLengths}
-use Rattle.reduction.specs.Private.Writing.{withNumbers, endsAt, Marks, markedIn, Counts, regionNumbers}
+use Rattle.reduction.specs.Private.Writing.{withNumbers, endsAt, Marks, markedIn, regionNumbers}
 use Rattle.reduction.proofs.Theory.Leaves.{leaves-count}
 use Rattle.reduction.proofs.Writing.NumberRows.{numbers-none, numbers-join}
 
@@ -72,33 +70,17 @@ marked-set E X marks = λ i p. (ap (λ (n : ℕ). eqb n 1) (marks p) ∙ eqb-bit
 pub marks-itself : (E : List ℕ) (X : Peptides) → Marks E X → Marks E (markedIn E)
 marks-itself E X marks = rw (marked-set E X marks) marks
 
--- Counts.
+-- How many leaves end.
 
-module _ (E C : List ℕ) where
-  pub counts-first : getD C 0 0 ≡ 0 → Counts 0 E C
-  unfolding card
-  counts-first e p h =
-      let z : p ≡ 0 = omega arith in
-      rw z e
+-- the byte of the next peptide is what it adds
+pub count-next : (E : List ℕ) → Marks E (markedIn E) → (p : ℕ) → card (p + 1) (markedIn E) ≡ card p (markedIn E) + getD E (p + 1) 0
+unfolding card
+count-next E marks p = rw (marks (p + 1), add-one p)
 
-  pub counts-small : (m : ℕ) → Counts m E C → (p : ℕ) → p ≤ m → getD C p 0 ≤ m
-  counts-small m counts p h = omega (arith, counts p h, card-most p (markedIn E))
-
-  module _ (p : ℕ) (marks : Marks E (markedIn E)) (counts : Counts p E C) where
-    next-count : getD C p 0 + getD E (p + 1) 0 ≡ card (p + 1) (markedIn E)
-    unfolding card
-    next-count = rw (counts p (omega arith), marks (p + 1), add-one p)
-
-    pub count-fits : getD C p 0 + getD E (p + 1) 0 ≤ p + 1
-    count-fits = omega (arith, next-count, card-most (p + 1) (markedIn E))
-
-    pub counts-more : p + 1 < length C → Counts (p + 1) E (set C (p + 1) (getD C p 0 + getD E (p + 1) 0))
-    counts-more h q l =
-        let v = getD C p 0 + getD E (p + 1) 0 in
-        ⊎-elim
-        (λ e. rw e (getD-set-same C (p + 1) v 0 h ∙ next-count))
-        (λ k. getD-set-other C (p + 1) q v 0 (λ e. omega arith) ∙ counts q (omega arith))
-        (eq-or-lt-of-le l)
+-- from the first peptide on, they are all that end
+pub count-all : (X : Peptides) (m r : ℕ) → r + card 0 X ≡ card m X → r ≡ card m X
+unfolding card
+count-all X m r e = omega arith
 
 -- Leaf lengths.
 
@@ -140,20 +122,20 @@ lengths-none out X = numbers-none out 16
 
 -- Regions.
 
-module _ (C A B Z : List ℕ) where
-  pub region-numbers-none : regionNumbers 0 C A B Z ≡ []
+module _ (X : Peptides) (A B Z : List ℕ) where
+  pub region-numbers-none : regionNumbers 0 X A B Z ≡ []
   unfolding regionNumbers rising
   region-numbers-none = refl
 
   pub region-numbers-next : (k : ℕ)
-      → regionNumbers (k + 1) C A B Z
-      ≡ regionNumbers k C A B Z ++ ((getD C (getD A k 0 - 1) 0 + 1) ∷ getD C (getD B k 0) 0 ∷ getD Z k 0 ∷ [])
+      → regionNumbers (k + 1) X A B Z
+      ≡ regionNumbers k X A B Z ++ ((card (getD A k 0 - 1) X + 1) ∷ card (getD B k 0) X ∷ getD Z k 0 ∷ [])
   unfolding regionNumbers rising
   region-numbers-next k =
       let down : suc k - 1 ≡ k = omega arith in
       rw (add-one k, down)
 
-  region-numbers-length : (k : ℕ) → length (regionNumbers k C A B Z) ≡ 3 * k
+  region-numbers-length : (k : ℕ) → length (regionNumbers k X A B Z) ≡ 3 * k
   unfolding regionNumbers rising
   region-numbers-length zero = refl
   region-numbers-length (suc k) =
@@ -161,8 +143,8 @@ module _ (C A B Z : List ℕ) where
       rw length-append (omega arith)
 
   pub regions-more : (out : List ℕ) (at k : ℕ)
-      → withNumbers (withNumbers out at (regionNumbers k C A B Z)) (at + 6 * k) ((getD C (getD A k 0 - 1) 0 + 1) ∷ getD C (getD B k 0) 0 ∷ getD Z k 0 ∷ [])
-      ≡ withNumbers out at (regionNumbers (k + 1) C A B Z)
+      → withNumbers (withNumbers out at (regionNumbers k X A B Z)) (at + 6 * k) ((card (getD A k 0 - 1) X + 1) ∷ card (getD B k 0) X ∷ getD Z k 0 ∷ [])
+      ≡ withNumbers out at (regionNumbers (k + 1) X A B Z)
   regions-more out at k =
-      numbers-join out at (regionNumbers k C A B Z) _ (at + 6 * k) (omega (arith, region-numbers-length k))
+      numbers-join out at (regionNumbers k X A B Z) _ (at + 6 * k) (omega (arith, region-numbers-length k))
       ∙ ap (withNumbers out at) (sym (region-numbers-next k))

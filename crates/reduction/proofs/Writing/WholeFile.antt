@@ -21,9 +21,12 @@ use Rattle.bounds.specs.Ranges.{Range, Peptides, card, some, rangesOf, In}
 use Rattle.bounds.proofs.Basics.Members.{in-at, place, some-in, some-found, both-ways}
 use Rattle.reduction.specs.Reduction.{rising, endsLeaf, leafLengths, regionOf, writtenFamily, reducedFamily, reducedFile}
 use Rattle.reduction.specs.Private.Steps.{Begins, reducedRanges, Listed}
-use Rattle.reduction.specs.Private.Writing.{withNumbers, headerNumbers, OnLine, endsAt, Marks, markedIn, Counts, regionNumbers, Wrote}
+use Rattle.reduction.specs.Private.Writing.{withNumbers, headerNumbers, OnLine, endsAt, Marks, markedIn, regionNumbers, Wrote}
 use Rattle.reduction.proofs.Basics.Plain.{Plain}
+use Rattle.reduction.proofs.Basics.Grid.{FileOrder, before-le}
 use Rattle.reduction.proofs.Theory.RunOrStretch.{plain, first}
+use Rattle.reduction.proofs.Theory.Reduced.{reduced-ordered}
+use Rattle.reduction.proofs.Theory.Regions.{order-at}
 use Rattle.reduction.proofs.Theory.Leaves.{leaves-count}
 use Rattle.reduction.proofs.Theory.Accepted.{reduced-wellformed}
 use Rattle.reduction.proofs.Theory.OneFile.{reduced-file-fits}
@@ -77,8 +80,8 @@ module _ (m : ℕ) (Q : List Range) (plain : (q : Range) → In q Q → Plain m 
           some-below (λ q. eqb p (q .low) || eqb p (q .high)) Q (λ k. eqb p (getD A k 0 - 1) || eqb p (getD B k 0))
           (λ k h. let e = at-range k h in rw (e .0, e .1))
 
-  ranges-on-line : m ≤ 4096 → ((q : Range) → In q Q → 1 ≤ q .from) → OnLine m (length Q) A B
-  ranges-on-line h some =
+  ranges-on-line : m ≤ 4096 → ((q : Range) → In q Q → 1 ≤ q .from) → FileOrder Q → OnLine m (length Q) A B
+  ranges-on-line h some ordered =
       record {
         line = h;
         firsts = begins-length (λ q. q .from) Q A firsts;
@@ -86,34 +89,33 @@ module _ (m : ℕ) (Q : List Range) (plain : (q : Range) → In q Q → Plain m 
         first = λ k l. omega (arith, number-at (λ q. q .from) Q A firsts k l, some (getD Q k noRange) (in-at noRange Q k l));
         order = λ k l. omega (arith, number-at (λ q. q .from) Q A firsts k l, number-at (λ q. q .to) Q B lasts k l, plain (getD Q k noRange) (in-at noRange Q k l) .order);
         last = λ k l. omega (arith, number-at (λ q. q .to) Q B lasts k l, plain (getD Q k noRange) (in-at noRange Q k l) .small);
+        rises = λ k l. omega (arith, number-at (λ q. q .from) Q A firsts k (omega arith), number-at (λ q. q .from) Q A firsts (k + 1) l, before-le (getD Q k noRange) (getD Q (k + 1) noRange) (order-at noRange Q ordered k (k + 1) (omega arith) l));
       }
 
   -- The numbers of the regions.
-  module _ (Z C : List ℕ) (zs : Begins (map (λ q. q .z) Q) Z) (X : Peptides) (counts : (p : ℕ) → p ≤ m → getD C p 0 ≡ card p X) where
+  module _ (Z : List ℕ) (zs : Begins (map (λ q. q .z) Q) Z) (X : Peptides) where
     abbrev regions : List Region
     regions = map (regionOf X) Q
 
     region-there : (k : ℕ) → k < length Q
-        → regionFields (getD regions k noRegion ∷ []) ≡ (getD C (getD A k 0 - 1) 0 + 1) ∷ getD C (getD B k 0) 0 ∷ getD Z k 0 ∷ []
+        → regionFields (getD regions k noRegion ∷ []) ≡ (card (getD A k 0 - 1) X + 1) ∷ card (getD B k 0) X ∷ getD Z k 0 ∷ []
     unfolding regionFields regionOf
     region-there k h =
-        let q = getD Q k noRange in
-        let w = plain q (in-at noRange Q k h) in
         let e = at-range k h in
-        rw (map-at (regionOf X) Q noRange noRegion k h, e .0, e .1, number-at (λ q. q .z) Q Z zs k h, counts (q .low) (omega arith), counts (q .high) (omega arith))
+        rw (map-at (regionOf X) Q noRange noRegion k h, e .0, e .1, number-at (λ q. q .z) Q Z zs k h)
 
-    some-regions : (k : ℕ) → k ≤ length Q → regionNumbers k C A B Z ≡ regionFields (take k regions)
+    some-regions : (k : ℕ) → k ≤ length Q → regionNumbers k X A B Z ≡ regionFields (take k regions)
     unfolding regionNumbers rising regionFields
     some-regions zero h = refl
     some-regions (suc k) h =
         let here : k < length regions = omega (arith, length-map Q (regionOf X)) in
-        ap (λ (n : ℕ). regionNumbers n C A B Z) (sym (add-one k))
-        ∙ region-numbers-next C A B Z k
+        ap (λ (n : ℕ). regionNumbers n X A B Z) (sym (add-one k))
+        ∙ region-numbers-next X A B Z k
         ∙ ap₂ _++_ (some-regions k (omega arith)) (sym (region-there k h))
         ∙ sym (fields-join (take k regions) (getD regions k noRegion ∷ []))
         ∙ ap regionFields (sym (take-suc regions k noRegion here))
 
-    all-regions : regionNumbers (length Q) C A B Z ≡ regionFields regions
+    all-regions : regionNumbers (length Q) X A B Z ≡ regionFields regions
     all-regions = some-regions (length Q) (omega arith) ∙ ap regionFields (take-all (length Q) regions (omega (arith, length-map Q (regionOf X))))
 
 -- The parts of a file, written one after the other.
@@ -133,12 +135,12 @@ joined out h l r a six e =
         (append-assoc (mark ++ bytesOf h) (bytesOf l) (bytesOf r) ∙ append-assoc mark (bytesOf h) (bytesOf l ++ bytesOf r))
 
 -- how much is written, and that there is room for it
-pub record Room (m n : ℕ) (E C : List ℕ) (room : ℕ) : Type 0 where
+pub record Room (m n N : ℕ) (E : List ℕ) (room : ℕ) : Type 0 where
   pub line : m ≤ 4096
-  pub few-leaves : getD C m 0 ≤ 4096
+  pub few-leaves : N ≤ 4096
   pub few-regions : n ≤ 8191
-  pub leaf-lengths : getD C m 0 ≡ card m (markedIn E)
-  pub enough : 16 + 2 * getD C m 0 + 6 * n ≤ room
+  pub leaf-lengths : N ≡ card m (markedIn E)
+  pub enough : 16 + 2 * N + 6 * n ≤ room
 
 -- What is written from the list of the reduced ranges of an accepted file.
 module _ (s : List ℕ) (bytes : IsBytes s) (accepted : Accepted s) (n : ℕ) (A B Z : List ℕ) (listed : Listed s n A B Z) where
@@ -165,7 +167,7 @@ module _ (s : List ℕ) (bytes : IsBytes s) (accepted : Accepted s) (n : ℕ) (A
   unfolding reducedRanges
   listed-on-line =
       rw (listed .number)
-      (ranges-on-line (F .peptides) Q is-plain A B (listed .firsts) (listed .lasts) (formed .peptides-most) (first (F .peptides) (rangesOf F)))
+      (ranges-on-line (F .peptides) Q is-plain A B (listed .firsts) (listed .lasts) (formed .peptides-most) (first (F .peptides) (rangesOf F)) (reduced-ordered (F .peptides) (rangesOf F)))
 
   pub bounds-there : n ≤ length Z
   bounds-there = omega (arith, listed .number, begins-length (λ q. q .z) Q Z (listed .bounds))
@@ -186,14 +188,15 @@ module _ (s : List ℕ) (bytes : IsBytes s) (accepted : Accepted s) (n : ℕ) (A
     pub ranges-listed : OnLine m n A B
     ranges-listed = rw line listed-on-line
 
-    module _ (E C : List ℕ) (marks : Marks E (endsAt m n A B)) (counts : Counts m E C) where
+    -- E marks where the leaves end, N is how many they are
+    module _ (E : List ℕ) (marks : Marks E (endsAt m n A B)) (N : ℕ) (count : N ≡ card m (markedIn E)) where
       marked : markedIn E ≡ endsLeaf (F .peptides) Q
       marked = marked-set E (endsAt m n A B) marks ∙ ap (λ (k : ℕ). endsAt k n A B) line ∙ listed-ends
 
-      leaf-count : getD C m 0 ≡ leaves G
-      leaf-count = counts m (omega arith) ∙ rw (line, marked) (sym leaves-there)
+      leaf-count : N ≡ leaves G
+      leaf-count = count ∙ rw (line, marked) (sym leaves-there)
 
-      pub has-room : (room : ℕ) → length s ≤ room → Room m n E C room
+      pub has-room : (room : ℕ) → length s ≤ room → Room m n N E room
       has-room room h =
           let w = reduced-formed in
           let few : regionCount G ≤ 8191 = omega (arith, w .regions-most, w .leaves-most, w .peptides-most) in
@@ -201,19 +204,17 @@ module _ (s : List ℕ) (bytes : IsBytes s) (accepted : Accepted s) (n : ℕ) (A
             line = omega (arith, line, formed .peptides-most);
             few-leaves = omega (arith, leaf-count, w .leaves-most, w .peptides-most);
             few-regions = omega (arith, regions-there);
-            leaf-lengths = counts m (omega arith);
+            leaf-lengths = count;
             enough = omega (arith, leaf-count, regions-there, file-length G, fits);
           }
         where
           fits : length (fileOf G) ≤ length s
           fits = unfold reducedFile in reduced-file-fits s bytes accepted
 
-      regions-are : regionNumbers n C A B Z ≡ regionFields (G .regions)
+      regions-are : regionNumbers n (markedIn E) A B Z ≡ regionFields (G .regions)
       unfolding reducedFamily writtenFamily reducedRanges
       regions-are =
-          rw (listed .number)
-          (all-regions (F .peptides) Q is-plain A B (listed .firsts) (listed .lasts) Z C (listed .bounds) (endsLeaf (F .peptides) Q)
-          (λ p h. counts p (rw line h) ∙ ap (card p) marked))
+          rw (listed .number, marked) (all-regions (F .peptides) Q is-plain A B (listed .firsts) (listed .lasts) Z (listed .bounds) (endsLeaf (F .peptides) Q))
 
       lengths-are : leafLengths m (markedIn E) ≡ G .lengths
       unfolding reducedFamily writtenFamily reducedRanges
@@ -223,7 +224,7 @@ module _ (s : List ℕ) (bytes : IsBytes s) (accepted : Accepted s) (n : ℕ) (A
       unfolding reducedFamily writtenFamily
       peptides-are = line
 
-      fields-are : headerNumbers m (getD C m 0) n ++ (leafLengths m (markedIn E) ++ regionNumbers n C A B Z) ≡ fields G
+      fields-are : headerNumbers m N n ++ (leafLengths m (markedIn E) ++ regionNumbers n (markedIn E) A B Z) ≡ fields G
       unfolding fields
       fields-are = rw (regions-are, lengths-are, leaf-count, ← regions-there, peptides-are)
 
@@ -231,12 +232,12 @@ module _ (s : List ℕ) (bytes : IsBytes s) (accepted : Accepted s) (n : ℕ) (A
       total-fits = let w = reduced-formed in omega (arith, w .regions-most, w .leaves-most, w .peptides-most)
 
       -- the reduced file stands at the start of the output
-      pub wrote : (out : List ℕ) (total : ℕ) → length s ≤ length out → total ≡ 16 + 2 * getD C m 0 + 6 * n
+      pub wrote : (out : List ℕ) (total : ℕ) → length s ≤ length out → total ≡ 16 + 2 * N + 6 * n
           → Wrote s out
           (withNumbers
-          (withNumbers (sets out 0 (mark ++ bytesOf (headerNumbers m (getD C m 0) n))) 16 (leafLengths m (markedIn E)))
-          (16 + 2 * getD C m 0)
-          (regionNumbers n C A B Z))
+          (withNumbers (sets out 0 (mark ++ bytesOf (headerNumbers m N n))) 16 (leafLengths m (markedIn E)))
+          (16 + 2 * N)
+          (regionNumbers n (markedIn E) A B Z))
           total n
       unfolding reducedFile fileOf
       wrote out total room e =
@@ -244,7 +245,7 @@ module _ (s : List ℕ) (bytes : IsBytes s) (accepted : Accepted s) (n : ℕ) (A
           let small = total-fits in
           record {
             start =
-                joined out (headerNumbers m (getD C m 0) n) (leafLengths m (markedIn E)) (regionNumbers n C A B Z) (16 + 2 * getD C m 0) refl
+                joined out (headerNumbers m N n) (leafLengths m (markedIn E)) (regionNumbers n (markedIn E) A B Z) (16 + 2 * N) refl
                 (omega (arith, leaf-count, ap length lengths-are))
                 ∙ ap (λ (l : List ℕ). sets out 0 (mark ++ bytesOf l)) fields-are
                 ∙ at-start (fileOf G) (omega (arith, file-length G, has-room (length out) room .enough, leaf-count, regions-there));

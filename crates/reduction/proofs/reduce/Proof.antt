@@ -31,8 +31,8 @@ same-length c = search needs
 
 returns-3 : tie.Need-returns-3
 returns-3 c =
-    reduce-written (now (c .before .before .before .before .before .before .before .before .before .before .before .before .args .file)) (now (c .before .before .before .before .before .before .before .before .before .before .before .before .args .out)) (sym (c .before .before .before .before .before .before .before .before .file-cause .ensures .tested) ∙ c .before .before .before .before .before .before .if1 .left) (c .before .before .before .before .before .if2 .left)
-    (c .before .before .reduce-accepted .last .1 .1 .0) (c .before .before .reduce-accepted .result .bytes) (c .before .before .reduce-accepted .result .regions) (c .before .before .reduce-accepted .ensures)
+    reduce-written (now (c .before .before .before .before .before .before .before .before .before .before .before .before .before .args .file)) (now (c .before .before .before .before .before .before .before .before .before .before .before .before .before .args .out)) (sym (c .before .before .before .before .before .before .before .before .before .file-cause .ensures .tested) ∙ c .before .before .before .before .before .before .before .if1 .left) (c .before .before .before .before .before .before .if2 .left)
+    (c .before .before .before .reduce-accepted .last .1 .1 .0) (c .before .before .before .reduce-accepted .result .bytes) (c .before .before .before .reduce-accepted .result .regions) (c .before .before .before .reduce-accepted .ensures)
 
 pub reduce-spec : {M : Type 1} → statement M
 reduce-spec =

@@ -16,12 +16,18 @@ slice-aggregate-find-stretches-2 c = search needs
 slice-aggregate-find-stretches-3 : tie.Need-slice-aggregate-find-stretches-3
 slice-aggregate-find-stretches-3 c = search needs
 
+slice-aggregate-find-stretches-4 : tie.Need-slice-aggregate-find-stretches-4
+slice-aggregate-find-stretches-4 c = search needs
+
+slice-aggregate-find-stretches-5 : tie.Need-slice-aggregate-find-stretches-5
+slice-aggregate-find-stretches-5 c = search needs
+
 find-stretches-requires : tie.Need-find-stretches-requires
 find-stretches-requires c κs =
-    let s = now (c .before .before .before .before .before .before .args .file) in
-    let a = c .before .before .before .before .before .before .pre .0 .accepted in
+    let s = now (c .before .before .before .before .before .before .before .before .before .args .file) in
+    let a = c .before .before .before .before .before .before .before .before .before .pre .0 .accepted in
     let few = few-regions s (accepted-header s a) in
-    (c .before .before .before .before .before .before .pre .0, record { lives = omega (arith, few-peptides s a); firsts = omega arith; lasts = omega arith })
+    (c .before .before .before .before .before .before .before .before .before .pre .0, (record { first = omega arith; second = omega arith }, record { lives = omega (arith, few-peptides s a); firsts = omega arith; lasts = omega arith }))
 
 slice-aggregate-live-totals : tie.Need-slice-aggregate-live-totals
 slice-aggregate-live-totals c = search needs
@@ -50,14 +56,12 @@ slice-aggregate-list-reduced-5 c = search needs
 slice-aggregate-list-reduced-6 : tie.Need-slice-aggregate-list-reduced-6
 slice-aggregate-list-reduced-6 c = search needs
 
-slice-aggregate-list-reduced-7 : tie.Need-slice-aggregate-list-reduced-7
-slice-aggregate-list-reduced-7 c = search needs
-
 list-reduced-requires : tie.Need-list-reduced-requires
 list-reduced-requires c κs =
-    let s = now (c .before .before .before .before .before .before .before .before .before .before .before .before .before .before .before .before .before .before .before .before .before .args .file) in
-    let few = few-regions s (accepted-header s (c .before .before .before .before .before .before .before .before .before .before .before .before .before .before .before .before .before .before .before .before .before .pre .0 .accepted)) in
-    (c .before .before .before .before .before .before .before .before .before .before .before .before .before .before .before .before .before .before .before .before .before .pre .0, (c .before .before .before .before .before .before .before .before .live-totals .ensures, (c .before .before .before .before .before .before .before .before .before .before .before .before .before .before .find-stretches .ensures, (omega arith, (omega arith, omega arith)))))
+    let s = now (c .before .before .before .before .before .before .before .before .before .before .before .before .before .before .before .before .before .before .before .before .before .before .before .before .before .before .args .file) in
+    let few = few-regions s (accepted-header s (c .before .before .before .before .before .before .before .before .before .before .before .before .before .before .before .before .before .before .before .before .before .before .before .before .before .before .pre .0 .accepted)) in
+    let found = c .before .before .before .before .before .before .before .before .before .before .before .before .before .before .before .before .find-stretches in
+    (c .before .before .before .before .before .before .before .before .before .before .before .before .before .before .before .before .before .before .before .before .before .before .before .before .before .before .pre .0, (c .before .before .before .before .before .before .before .before .live-totals .ensures, (found .ensures, (omega (arith, found .kept .1 .1 .0), (omega (arith, found .kept .1 .1 .1 .0), omega (arith, c .before .before .before .before .before .before .before .before .live-totals .kept .1 .1 .0))))))
 
 slice-aggregate-write-reduced : tie.Need-slice-aggregate-write-reduced
 slice-aggregate-write-reduced c = search needs
@@ -69,10 +73,13 @@ slice-aggregate-write-reduced-3 : tie.Need-slice-aggregate-write-reduced-3
 slice-aggregate-write-reduced-3 c = search needs
 
 write-reduced-requires : tie.Need-write-reduced-requires
-write-reduced-requires c κs = (c .before .before .before .before .before .before .before .before .before .before .before .before .before .before .before .before .before .before .before .before .before .before .before .before .before .before .before .before .before .pre .0 .accepted, (c .before .before .before .before .before .before .before .list-reduced .ensures, c .before .before .before .before .before .before .before .before .before .before .before .before .before .before .before .before .before .before .before .before .before .before .before .before .before .before .before .before .before .pre .1))
+write-reduced-requires c κs = (c .before .before .before .before .before .before .before .before .before .before .before .before .before .before .before .before .before .before .before .before .before .before .before .before .before .before .before .before .before .before .before .before .before .before .before .before .pre .0 .accepted, (c .before .before .before .before .before .before .before .before .before .list-reduced .ensures, c .before .before .before .before .before .before .before .before .before .before .before .before .before .before .before .before .before .before .before .before .before .before .before .before .before .before .before .before .before .before .before .before .before .before .before .before .pre .1))
 
 same-length : tie.Need-same-length
 same-length c = search needs
+
+same-length-2 : tie.Need-same-length-2
+same-length-2 c = search needs
 
 returns : tie.Need-returns
 returns c = search needs
@@ -84,6 +91,8 @@ reduce-accepted-spec =
     slice-aggregate-find-stretches
     slice-aggregate-find-stretches-2
     slice-aggregate-find-stretches-3
+    slice-aggregate-find-stretches-4
+    slice-aggregate-find-stretches-5
     find-stretches-requires
     slice-aggregate-live-totals
     slice-aggregate-live-totals-2
@@ -94,11 +103,11 @@ reduce-accepted-spec =
     slice-aggregate-list-reduced-4
     slice-aggregate-list-reduced-5
     slice-aggregate-list-reduced-6
-    slice-aggregate-list-reduced-7
     list-reduced-requires
     slice-aggregate-write-reduced
     slice-aggregate-write-reduced-2
     slice-aggregate-write-reduced-3
     write-reduced-requires
     same-length
+    same-length-2
     returns)

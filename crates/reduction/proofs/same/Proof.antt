@@ -37,10 +37,10 @@ same-reduced-requires : tie.Need-same-reduced-requires
 same-reduced-requires c κs = (c .before .before .before .before .before .before .before .before .file-cause .ensures .parented (c .before .before .before .before .before .before .if1 .left), c .before .before .before .before .file-cause2 .ensures .parented (c .before .before .if2 .left))
 
 returns-3 : tie.Need-returns-3
-returns-3 c = compare-same (now (c .before .before .before .before .before .before .before .before .before .before .before .before .before .before .args .first)) (now (c .before .before .before .before .before .before .before .before .before .before .before .before .before .before .args .second)) (sym (c .before .before .before .before .before .before .before .before .before .before .file-cause .ensures .tested) ∙ c .before .before .before .before .before .before .before .before .if1 .left) (sym (c .before .before .before .before .before .before .file-cause2 .ensures .tested) ∙ c .before .before .before .before .if2 .left) (sym (c .before .same-reduced .ensures) ∙ c .if3 .taken)
+returns-3 c = compare-same (now (c .before .before .before .before .before .before .before .before .before .before .before .before .before .before .before .before .args .first)) (now (c .before .before .before .before .before .before .before .before .before .before .before .before .before .before .before .before .args .second)) (sym (c .before .before .before .before .before .before .before .before .before .before .before .before .file-cause .ensures .tested) ∙ c .before .before .before .before .before .before .before .before .before .before .if1 .left) (sym (c .before .before .before .before .before .before .before .before .file-cause2 .ensures .tested) ∙ c .before .before .before .before .before .before .if2 .left) (sym (c .before .before .before .same-reduced .ensures) ∙ c .if3 .taken)
 
 returns-4 : tie.Need-returns-4
-returns-4 c = compare-different (now (c .before .before .before .before .before .before .before .before .before .before .before .before .before .before .args .first)) (now (c .before .before .before .before .before .before .before .before .before .before .before .before .before .before .args .second)) (sym (c .before .before .before .before .before .before .before .before .before .before .file-cause .ensures .tested) ∙ c .before .before .before .before .before .before .before .before .if1 .left) (sym (c .before .before .before .before .before .before .file-cause2 .ensures .tested) ∙ c .before .before .before .before .if2 .left) (sym (c .before .same-reduced .ensures) ∙ c .if3 .left)
+returns-4 c = compare-different (now (c .before .before .before .before .before .before .before .before .before .before .before .before .before .before .before .before .args .first)) (now (c .before .before .before .before .before .before .before .before .before .before .before .before .before .before .before .before .args .second)) (sym (c .before .before .before .before .before .before .before .before .before .before .before .before .file-cause .ensures .tested) ∙ c .before .before .before .before .before .before .before .before .before .before .if1 .left) (sym (c .before .before .before .before .before .before .before .before .file-cause2 .ensures .tested) ∙ c .before .before .before .before .before .before .if2 .left) (sym (c .before .before .before .same-reduced .ensures) ∙ c .if3 .left)
 
 pub same-spec : {M : Type 1} → statement M
 same-spec =

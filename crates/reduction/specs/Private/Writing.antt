@@ -20,7 +20,7 @@ withNumbers out at ns = sets out at (bytesOf ns)
 abbrev pub headerNumbers : ℕ → ℕ → ℕ → List ℕ
 headerNumbers m N K = m ∷ N ∷ K ∷ lengthsOffset ∷ regionsOffset N ∷ totalLength N K ∷ []
 
--- n ranges, by first and last peptide, on the line of the peptides 1 to m
+-- n ranges, by first and last peptide, on the line of the peptides 1 to m; their first peptides rise
 pub record OnLine (m n : ℕ) (A B : List ℕ) : Type 0 where
   pub line : m ≤ 4096
   pub firsts : n ≤ length A
@@ -28,6 +28,7 @@ pub record OnLine (m n : ℕ) (A B : List ℕ) : Type 0 where
   pub first : (k : ℕ) → k < n → 1 ≤ getD A k 0
   pub order : (k : ℕ) → k < n → getD A k 0 ≤ getD B k 0
   pub last : (k : ℕ) → k < n → getD B k 0 ≤ m
+  pub rises : (k : ℕ) → k + 1 < n → getD A k 0 ≤ getD A (k + 1) 0
 
 -- a leaf ends at m, just before the first peptide of each of the n ranges and at the last one
 unfoldable pub endsAt : ℕ → ℕ → List ℕ → List ℕ → Peptides
@@ -41,14 +42,10 @@ Marks E X = (p : ℕ) → getD E p 0 ≡ cond (X p) 1 0
 unfoldable pub markedIn : List ℕ → Peptides
 markedIn E p = eqb (getD E p 0) 1
 
--- at each place up to m, how many of the peptides up to it are marked
-abbrev pub Counts : ℕ → List ℕ → List ℕ → Type 0
-Counts m E C = (p : ℕ) → p ≤ m → getD C p 0 ≡ card p (markedIn E)
-
--- The numbers of the regions of n ranges: first leaf, last leaf and z. C has the number of leaves that end up to each peptide.
-unfoldable pub regionNumbers : ℕ → List ℕ → List ℕ → List ℕ → List ℕ → List ℕ
-regionNumbers n C A B Z =
-    rising n (λ k. (getD C (getD A (k - 1) 0 - 1) 0 + 1) ∷ getD C (getD B (k - 1) 0) 0 ∷ getD Z (k - 1) 0 ∷ [])
+-- The numbers of the regions of n ranges: first leaf, last leaf and z. X is the set of the peptides at which a leaf ends.
+unfoldable pub regionNumbers : ℕ → Peptides → List ℕ → List ℕ → List ℕ → List ℕ
+regionNumbers n X A B Z =
+    rising n (λ k. (card (getD A (k - 1) 0 - 1) X + 1) ∷ card (getD B (k - 1) 0) X ∷ getD Z (k - 1) 0 ∷ [])
 
 -- the reduced file of s is at the start of the output, which is unchanged after it; and what is said of it
 pub record Wrote (s old new : List ℕ) (bytes regions : ℕ) : Type 0 where

@@ -1,9 +1,7 @@
 -- The ends of the regions, then the live peptides, then the stretches.
-use Prim.Native.Nat.{_≤_}
 use native.Mathlib.Omega.{arith}
 use denote.Ref.{now}
-use Rattle.reader.specs.Family.{Family, familyOf, regionCount}
-use Rattle.reader.specs.WellFormed.{WellFormed}
+use Rattle.reader.specs.Family.{familyOf}
 use Rattle.reader.proofs.Accepting.{well-formed}
 use Rattle.reduction.specs.Private.Passes.{WithParents, Ended}
 use Rattle.reduction.proofs.Stretching.ListFronts.{known-parents, lives-begin, firsts-begin, lasts-begin}
@@ -17,46 +15,25 @@ known c =
     let s = now (c .before .args .file) in
     known-parents (familyOf s) (well-formed s (λ i. omega (arith, c .shared-slice-known .given i)) (pre .accepted)) (now (c .before .args .parents)) (pre .parented)
 
-few : (F : Family) → WellFormed F → regionCount F ≤ 8191
-few F w = omega (arith, w .regions-most, w .leaves-most, w .peptides-most)
-
-ended : (c : tie.After-find-ends) → Ended (familyOf (now (c .before .before .before .before .before .before .before .before .args .file))) (c .find-ends .last .1 .1 .0) (c .find-ends .last .1 .1 .1 .0)
+ended : (c : tie.After-find-ends) → Ended (familyOf (now (c .before .before .before .before .before .before .before .before .before .before .args .file))) (c .find-ends .last .1 .1 .0) (c .find-ends .last .1 .1 .1 .0)
 ended c =
-    let w = known (c .before .before .before .before .before .before .before) .formed in
+    let rooms = c .before .before .before .before .before .before .before .before .before .before .pre .1 .0 in
     record {
-      formed = w;
+      formed = known (c .before .before .before .before .before .before .before .before .before) .formed;
       ends = c .find-ends .ensures;
-      rooms = record { first = omega (arith, few _ w, c .find-ends .kept .1 .1 .0); second = omega (arith, few _ w, c .find-ends .kept .1 .1 .1 .0) };
+      rooms = record { first = omega (arith, rooms .first, c .find-ends .kept .1 .1 .0); second = omega (arith, rooms .second, c .find-ends .kept .1 .1 .1 .0) };
     }
 
-slice-aggregate-find-ends : tie.Need-slice-aggregate-find-ends
-slice-aggregate-find-ends c = search needs
-
-slice-aggregate-find-ends-2 : tie.Need-slice-aggregate-find-ends-2
-slice-aggregate-find-ends-2 c = search needs
-
 find-ends-requires : tie.Need-find-ends-requires
-find-ends-requires c κs = let k = known (c .before .before .before .before .before .before) in (k, record { first = few _ (k .formed); second = few _ (k .formed) })
-
-slice-aggregate-find-live : tie.Need-slice-aggregate-find-live
-slice-aggregate-find-live c = search needs
-
-slice-aggregate-find-live-2 : tie.Need-slice-aggregate-find-live-2
-slice-aggregate-find-live-2 c = search needs
+find-ends-requires c κs = (known (c .before .before .before .before .before .before .before .before), c .before .before .before .before .before .before .before .before .before .pre .1 .0)
 
 find-live-requires : tie.Need-find-live-requires
-find-live-requires c κs = (ended (c .before .before .before .before .before), c .before .before .before .before .before .before .before .before .before .before .before .before .before .pre .1 .lives)
-
-slice-aggregate-write-stretches : tie.Need-slice-aggregate-write-stretches
-slice-aggregate-write-stretches c = search needs
-
-slice-aggregate-write-stretches-2 : tie.Need-slice-aggregate-write-stretches-2
-slice-aggregate-write-stretches-2 c = search needs
+find-live-requires c κs = (ended (c .before .before .before .before .before .before .before), c .before .before .before .before .before .before .before .before .before .before .before .before .before .before .before .before .before .pre .1 .1 .lives)
 
 write-stretches-requires : tie.Need-write-stretches-requires
 write-stretches-requires c κs =
-    let rooms = c .before .before .before .before .before .before .before .before .before .before .before .before .before .before .before .before .before .before .before .before .before .pre .1 in (
-      record { ended = ended (c .before .before .before .before .before .before .before .before .before .before .before .before .before); lives = c .before .before .before .before .before .before .before .find-live .ensures; bytes = omega (arith, rooms .lives, c .before .before .before .before .before .before .before .find-live .kept .1 .1 .1 .0) },
+    let rooms = c .before .before .before .before .before .before .before .before .before .before .before .before .before .before .before .before .before .before .before .before .before .before .before .before .before .pre .1 .1 in (
+      record { ended = ended (c .before .before .before .before .before .before .before .before .before .before .before .before .before .before .before); lives = c .before .before .before .before .before .before .before .find-live .ensures; bytes = omega (arith, rooms .lives, c .before .before .before .before .before .before .before .find-live .kept .1 .1 .1 .0) },
       record { first = rooms .firsts; second = rooms .lasts },
     )
 
@@ -69,9 +46,15 @@ same-length-2 c = search needs
 same-length-3 : tie.Need-same-length-3
 same-length-3 c = search needs
 
+same-length-4 : tie.Need-same-length-4
+same-length-4 c = search needs
+
+same-length-5 : tie.Need-same-length-5
+same-length-5 c = search needs
+
 returns : tie.Need-returns
 returns c =
-    let rooms = c .before .before .before .before .before .before .before .before .before .before .before .before .before .before .before .before .before .before .before .before .before .before .before .before .before .before .pre .1 in
+    let rooms = c .before .before .before .before .before .before .before .before .before .before .before .before .before .before .before .before .before .before .before .before .before .before .before .before .before .before .before .before .before .before .pre .1 .1 in
     record {
       lives = lives-begin _ (c .before .before .before .before .before .before .before .before .before .before .before .before .find-live .last .1 .1 .1 .0) (omega (arith, rooms .lives, c .before .before .before .before .before .before .before .before .before .before .before .before .find-live .kept .1 .1 .1 .0)) (c .before .before .before .before .before .before .before .before .before .before .before .before .find-live .ensures);
       firsts = firsts-begin _ (c .before .before .before .before .write-stretches .last .1 .1 .1 .1 .0) (omega (arith, rooms .firsts, c .before .before .before .before .write-stretches .kept .1 .1 .1 .1 .0)) (c .before .before .before .before .write-stretches .ensures .0);
@@ -82,16 +65,12 @@ pub find-stretches-spec : {M : Type 1} → statement M
 find-stretches-spec =
     tie.close
     (tie.spec
-    slice-aggregate-find-ends
-    slice-aggregate-find-ends-2
     find-ends-requires
-    slice-aggregate-find-live
-    slice-aggregate-find-live-2
     find-live-requires
-    slice-aggregate-write-stretches
-    slice-aggregate-write-stretches-2
     write-stretches-requires
     same-length
     same-length-2
     same-length-3
+    same-length-4
+    same-length-5
     returns)

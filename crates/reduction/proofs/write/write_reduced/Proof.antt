@@ -1,16 +1,17 @@
--- The list of the reduced ranges gives the leaf ends, these the counts, and from both the parts of the file are written one after the other.
+-- The list of the reduced ranges gives the leaf ends, and from both the parts of the file are written one after the other.
 use Prim.Native.Nat.{ℕ, _+_, _*_}
 use native.Mathlib.Omega.{arith}
 use mathlib.Core.List.{List}
-use mathlib.Core.Path.{_≡_, refl, ap, _∙_}
-use lib.ListN.{length, getD}
+use mathlib.Core.Path.{_≡_, ap, _∙_}
+use lib.ListN.{length}
 use denote.Ref.{now}
 use Rattle.reader.specs.Bytes.{IsBytes}
 use Rattle.reader.specs.Family.{familyOf}
+use Rattle.bounds.specs.Ranges.{card}
 use Rattle.reduction.specs.Reduction.{leafLengths}
-use Rattle.reduction.specs.Private.Writing.{withNumbers, OnLine, endsAt, markedIn, regionNumbers}
+use Rattle.reduction.specs.Private.Writing.{withNumbers, OnLine, endsAt, Marks, markedIn, regionNumbers}
 use Rattle.reader.proofs.Lists.{zeros}
-use Rattle.reduction.proofs.Writing.LeafEnds.{marks-itself, counts-small}
+use Rattle.reduction.proofs.Writing.LeafEnds.{marks-itself, count-all}
 use Rattle.reduction.proofs.Writing.WholeFile.{Room, ranges-listed, bounds-there, has-room, wrote}
 use borrow.Author.Needs.{needs}
 use Rattle.reduction.proofs.write.write_reduced.Statement.{statement}
@@ -27,13 +28,24 @@ on-line c =
     let a = c .before .before .before .before .before .before .before .args in
     ranges-listed (now (a .file)) (bytes c) (c .before .before .before .before .before .before .before .pre .0) (a .n) (now (a .from)) (now (a .to)) (now (a .bounds)) (c .before .before .before .before .before .before .before .pre .1 .0) (c .before .peptide-count .result) (line c)
 
--- what is known once the leaf ends are counted
-room : (c : tie.After-counts2)
-    → Room (c .before .before .before .before .before .before .before .peptide-count .result) (c .before .before .before .before .before .before .before .before .before .before .before .before .before .args .n) (c .before .before .before .before .before .mark-ends .last .1 .1 .1 .1 .0) (c .before .count-ends .last .1 .1 .0) (length (now (c .before .before .before .before .before .before .before .before .before .before .before .before .before .args .out)))
+marks : (c : tie.After-mark-ends) → Marks (c .mark-ends .last .1 .1 .1 .1 .0) (markedIn (c .mark-ends .last .1 .1 .1 .1 .0))
+marks c =
+    let a = c .before .before .before .before .before .before .before .before .args in
+    marks-itself (c .mark-ends .last .1 .1 .1 .1 .0) (endsAt (c .before .before .peptide-count .result) (a .n) (now (a .from)) (now (a .to))) (c .mark-ends .ensures)
+
+-- the number of leaves
+counted : (c : tie.After-ends-between)
+    → c .ends-between .result ≡ card (c .before .before .before .before .before .peptide-count .result) (markedIn (c .before .before .before .mark-ends .last .1 .1 .1 .1 .0))
+counted c = count-all (markedIn (c .before .before .before .mark-ends .last .1 .1 .1 .1 .0)) (c .before .before .before .before .before .peptide-count .result) (c .ends-between .result) (c .ends-between .ensures)
+
+-- what is known once the leaves are counted
+room : (c : tie.After-ends-between)
+    → Room (c .before .before .before .before .before .peptide-count .result) (c .before .before .before .before .before .before .before .before .before .before .before .args .n) (c .ends-between .result) (c .before .before .before .mark-ends .last .1 .1 .1 .1 .0) (length (now (c .before .before .before .before .before .before .before .before .before .before .before .args .out)))
 room c =
-    let a = c .before .before .before .before .before .before .before .before .before .before .before .before .before .args in
-    has-room (now (a .file)) (bytes (c .before .before .before .before .before .before)) (c .before .before .before .before .before .before .before .before .before .before .before .before .before .pre .0) (a .n) (now (a .from)) (now (a .to)) (now (a .bounds)) (c .before .before .before .before .before .before .before .before .before .before .before .before .before .pre .1 .0) (c .before .before .before .before .before .before .before .peptide-count .result) (line (c .before .before .before .before .before .before))
-    (c .before .before .before .before .before .mark-ends .last .1 .1 .1 .1 .0) (c .before .count-ends .last .1 .1 .0) (c .before .before .before .before .before .mark-ends .ensures) (c .before .count-ends .ensures) (length (now (a .out))) (c .before .before .before .before .before .before .before .before .before .before .before .before .before .pre .1 .1)
+    let a = c .before .before .before .before .before .before .before .before .before .before .before .args in
+    let pre = c .before .before .before .before .before .before .before .before .before .before .before .pre in
+    let start = c .before .before .before .before in
+    has-room (now (a .file)) (bytes start) (pre .0) (a .n) (now (a .from)) (now (a .to)) (now (a .bounds)) (pre .1 .0) (start .before .peptide-count .result) (line start) (c .before .before .before .mark-ends .last .1 .1 .1 .1 .0) (c .before .before .before .mark-ends .ensures) (c .ends-between .result) (counted c) (length (now (a .out))) (pre .1 .1)
 
 peptide-count-requires : tie.Need-peptide-count-requires
 peptide-count-requires c κs = search needs
@@ -44,28 +56,13 @@ slice-aggregate-mark-ends c = search needs
 mark-ends-requires : tie.Need-mark-ends-requires
 mark-ends-requires c κs = (on-line c, (omega arith, λ p. zeros 4097 p))
 
-slice-aggregate-count-ends : tie.Need-slice-aggregate-count-ends
-slice-aggregate-count-ends c = search needs
+slice-aggregate-ends-between : tie.Need-slice-aggregate-ends-between
+slice-aggregate-ends-between c = search needs
 
-slice-aggregate-count-ends-2 : tie.Need-slice-aggregate-count-ends-2
-slice-aggregate-count-ends-2 c = search needs
-
-count-ends-requires : tie.Need-count-ends-requires
-count-ends-requires c κs =
-    let a = c .before .before .before .before .before .before .before .before .before .before .before .args in
-    let few = on-line (c .before .before .before .before) .line in (
-      omega (arith, c .before .before .before .mark-ends .kept .1 .1 .1 .1 .0),
-      (omega arith, (refl, marks-itself (c .before .before .before .mark-ends .last .1 .1 .1 .1 .0) (endsAt (c .before .before .before .before .before .peptide-count .result) (a .n) (now (a .from)) (now (a .to))) (c .before .before .before .mark-ends .ensures))),
-    )
-
-cast-leaves : tie.Need-cast-leaves
-cast-leaves c = search needs
-
-mul-leaves : tie.Need-mul-leaves
-mul-leaves c = search needs
-
-array-read-leaves : tie.Need-array-read-leaves
-array-read-leaves c = omega (arith, room c .line)
+ends-between-requires : tie.Need-ends-between-requires
+ends-between-requires c κs =
+    let few = on-line (c .before .before .before) .line in
+    (omega arith, (omega (arith, few, c .before .before .mark-ends .kept .1 .1 .1 .1 .0), marks (c .before .before)))
 
 write-header-requires : tie.Need-write-header-requires
 write-header-requires c κs =
@@ -78,7 +75,7 @@ slice-aggregate-write-lengths c = search needs
 write-lengths-requires : tie.Need-write-lengths-requires
 write-lengths-requires c κs =
     let r = room (c .before .before .before .before .before .before) in (
-      omega (arith, r .line, c .before .before .before .before .before .before .before .before .before .before .before .mark-ends .kept .1 .1 .1 .1 .0),
+      omega (arith, r .line, c .before .before .before .before .before .before .before .before .before .mark-ends .kept .1 .1 .1 .1 .0),
       omega (arith, r .enough, r .leaf-lengths, c .before .before .before .before .write-header .kept .1 .1 .1 .0),
     )
 
@@ -97,15 +94,15 @@ add-write-regions c = search needs
 write-regions-requires : tie.Need-write-regions-requires
 write-regions-requires c κs =
     let r = room (c .before .before .before .before .before .before .before .before .before .before .before) in
-    let a = c .before .before .before .before .before .before .before .before .before .before .before .before .before .before .before .before .before .before .before .before .before .before .before .before .args in
-    let s = now (a .file) in (
-      on-line (c .before .before .before .before .before .before .before .before .before .before .before .before .before .before .before .before .before),
+    let a = c .before .before .before .before .before .before .before .before .before .before .before .before .before .before .before .before .before .before .before .before .before .before .args in
+    let pre = c .before .before .before .before .before .before .before .before .before .before .before .before .before .before .before .before .before .before .before .before .before .before .pre in (
+      on-line (c .before .before .before .before .before .before .before .before .before .before .before .before .before .before .before),
       (
-        bounds-there s (bytes (c .before .before .before .before .before .before .before .before .before .before .before .before .before .before .before .before .before)) (c .before .before .before .before .before .before .before .before .before .before .before .before .before .before .before .before .before .before .before .before .before .before .before .before .pre .0) (a .n) (now (a .from)) (now (a .to)) (now (a .bounds)) (c .before .before .before .before .before .before .before .before .before .before .before .before .before .before .before .before .before .before .before .before .before .before .before .before .pre .1 .0),
+        bounds-there (now (a .file)) (bytes (c .before .before .before .before .before .before .before .before .before .before .before .before .before .before .before)) (pre .0) (a .n) (now (a .from)) (now (a .to)) (now (a .bounds)) (pre .1 .0),
         (
-          omega (arith, c .before .before .before .before .before .before .before .before .before .before .before .before .count-ends .kept .1 .1 .0),
+          omega (arith, r .line, c .before .before .before .before .before .before .before .before .before .before .before .before .before .before .mark-ends .kept .1 .1 .1 .1 .0),
           (
-            counts-small (c .before .before .before .before .before .before .before .before .before .before .before .before .before .before .before .before .mark-ends .last .1 .1 .1 .1 .0) (c .before .before .before .before .before .before .before .before .before .before .before .before .count-ends .last .1 .1 .0) (c .before .before .before .before .before .before .before .before .before .before .before .before .before .before .before .before .before .before .peptide-count .result) (c .before .before .before .before .before .before .before .before .before .before .before .before .count-ends .ensures),
+            marks (c .before .before .before .before .before .before .before .before .before .before .before .before .before .before),
             omega (arith, r .enough, c .before .before .before .before .before .before .before .before .before .write-header .kept .1 .1 .1 .0, c .before .before .before .before .write-lengths .kept .1 .1 .0),
           ),
         ),
@@ -117,19 +114,20 @@ same-length c = search needs
 
 returns : tie.Need-returns
 returns c =
-    let a = c .before .before .before .before .before .before .before .before .before .before .before .before .before .before .before .before .before .before .before .before .before .before .before .before .before .before .before .args in
-    let m = c .before .before .before .before .before .before .before .before .before .before .before .before .before .before .before .before .before .before .before .before .before .peptide-count .result in
-    let E = c .before .before .before .before .before .before .before .before .before .before .before .before .before .before .before .before .before .before .before .mark-ends .last .1 .1 .1 .1 .0 in
-    let C = c .before .before .before .before .before .before .before .before .before .before .before .before .before .before .before .count-ends .last .1 .1 .0 in
+    let a = c .before .before .before .before .before .before .before .before .before .before .before .before .before .before .before .before .before .before .before .before .before .before .before .before .before .args in
+    let pre = c .before .before .before .before .before .before .before .before .before .before .before .before .before .before .before .before .before .before .before .before .before .before .before .before .before .pre in
+    let m = c .before .before .before .before .before .before .before .before .before .before .before .before .before .before .before .before .before .before .before .peptide-count .result in
+    let N = c .before .before .before .before .before .before .before .before .before .before .before .before .before .before .ends-between .result in
+    let E = c .before .before .before .before .before .before .before .before .before .before .before .before .before .before .before .before .before .mark-ends .last .1 .1 .1 .1 .0 in
     let lengths = leafLengths m (markedIn E) in
-    let regions = regionNumbers (a .n) C (now (a .from)) (now (a .to)) (now (a .bounds)) in
+    let regions = regionNumbers (a .n) (markedIn E) (now (a .from)) (now (a .to)) (now (a .bounds)) in
     let parts =
     c .before .before .write-regions .ensures
-    ∙ ap (λ (l : List ℕ). withNumbers l (16 + 2 * getD C m 0) regions)
+    ∙ ap (λ (l : List ℕ). withNumbers l (16 + 2 * N) regions)
     (c .before .before .before .before .before .before .before .write-lengths .ensures ∙ ap (λ (l : List ℕ). withNumbers l 16 lengths) (c .before .before .before .before .before .before .before .before .before .before .before .before .write-header .ensures .1)) in
     rw parts
-    (wrote (now (a .file)) (bytes (c .before .before .before .before .before .before .before .before .before .before .before .before .before .before .before .before .before .before .before .before)) (c .before .before .before .before .before .before .before .before .before .before .before .before .before .before .before .before .before .before .before .before .before .before .before .before .before .before .before .pre .0) (a .n) (now (a .from)) (now (a .to)) (now (a .bounds)) (c .before .before .before .before .before .before .before .before .before .before .before .before .before .before .before .before .before .before .before .before .before .before .before .before .before .before .before .pre .1 .0) m (line (c .before .before .before .before .before .before .before .before .before .before .before .before .before .before .before .before .before .before .before .before)) E C
-    (c .before .before .before .before .before .before .before .before .before .before .before .before .before .before .before .before .before .before .before .mark-ends .ensures) (c .before .before .before .before .before .before .before .before .before .before .before .before .before .before .before .count-ends .ensures) (now (a .out)) (c .before .before .before .before .before .before .before .before .before .before .before .before .write-header .result) (c .before .before .before .before .before .before .before .before .before .before .before .before .before .before .before .before .before .before .before .before .before .before .before .before .before .before .before .pre .1 .1) (c .before .before .before .before .before .before .before .before .before .before .before .before .write-header .ensures .0))
+    (wrote (now (a .file)) (bytes (c .before .before .before .before .before .before .before .before .before .before .before .before .before .before .before .before .before .before)) (pre .0) (a .n) (now (a .from)) (now (a .to)) (now (a .bounds)) (pre .1 .0) m (line (c .before .before .before .before .before .before .before .before .before .before .before .before .before .before .before .before .before .before)) E
+    (c .before .before .before .before .before .before .before .before .before .before .before .before .before .before .before .before .before .mark-ends .ensures) N (counted (c .before .before .before .before .before .before .before .before .before .before .before .before .before .before)) (now (a .out)) (c .before .before .before .before .before .before .before .before .before .before .before .before .write-header .result) (pre .1 .1) (c .before .before .before .before .before .before .before .before .before .before .before .before .write-header .ensures .0))
 
 pub write-reduced-spec : {M : Type 1} → statement M
 write-reduced-spec =
@@ -138,12 +136,8 @@ write-reduced-spec =
     peptide-count-requires
     slice-aggregate-mark-ends
     mark-ends-requires
-    slice-aggregate-count-ends
-    slice-aggregate-count-ends-2
-    count-ends-requires
-    cast-leaves
-    mul-leaves
-    array-read-leaves
+    slice-aggregate-ends-between
+    ends-between-requires
     write-header-requires
     slice-aggregate-write-lengths
     write-lengths-requires

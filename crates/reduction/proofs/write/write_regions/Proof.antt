@@ -1,11 +1,13 @@
--- The loop has written the first k regions.
+-- The loop has written the first k regions, and counted the leaves that end up to the peptide passed.
 use Prim.Native.Nat.{ℕ, _+_, _*_, _≤_, _<_, _-_}
 use native.Mathlib.Omega.{arith}
 use mathlib.Core.List.{List, [], _∷_}
-use mathlib.Core.Path.{_≡_, refl, sym, ap, _∙_}
+use mathlib.Core.Path.{_≡_, refl, sym, ap, ap₂, _∙_}
 use lib.ListN.{length, getD}
 use denote.Ref.{now}
-use Rattle.reduction.specs.Private.Writing.{withNumbers, regionNumbers}
+use Rattle.bounds.specs.Ranges.{card}
+use Rattle.bounds.proofs.Basics.Counting.{card-most}
+use Rattle.reduction.specs.Private.Writing.{withNumbers, markedIn, regionNumbers}
 use Rattle.reduction.proofs.Writing.NumberRows.{numbers-none}
 use Rattle.reduction.proofs.Writing.LeafEnds.{region-numbers-none, regions-more}
 use borrow.Author.Needs.{needs}
@@ -13,86 +15,94 @@ use Rattle.reduction.proofs.write.write_regions.Statement.{statement}
 use Rattle.reduction.proofs.write.write_regions.Tie as tie
 
 abbrev Inv-loop : tie.InvT-loop
-Inv-loop m n from to bounds counts at out₀ k₀ out k =
-    (k ≤ n) × (length out ≡ length out₀) × (out ≡ withNumbers out₀ at (regionNumbers k counts from to bounds))
+Inv-loop m n from to bounds ends at out₀ passed₀ before₀ k₀ out passed before k =
+    (k ≤ n)
+    × (length out ≡ length out₀)
+    × (out ≡ withNumbers out₀ at (regionNumbers k (markedIn ends) from to bounds))
+    × (before ≡ card passed (markedIn ends))
+    × (k < n → passed ≤ getD from k 0 - 1)
 
 abbrev μ-loop : tie.MeasureT-loop
-μ-loop m n from to bounds counts at out₀ k₀ out k = n - k
+μ-loop m n from to bounds ends at out₀ passed₀ before₀ k₀ out passed before k = n - k
 
--- the k-th range lies on the line
+-- the k-th range lies on the line, and not before the peptide passed
 record KthRange (c : tie.In-loop Inv-loop μ-loop) : Type 0 where
   here : c .before .loop .k < c .before .before .before .before .before .before .before .args .n
   first : 1 ≤ getD (now (c .before .before .before .before .before .before .before .args .from)) (c .before .loop .k) 0
   order : getD (now (c .before .before .before .before .before .before .before .args .from)) (c .before .loop .k) 0 ≤ getD (now (c .before .before .before .before .before .before .before .args .to)) (c .before .loop .k) 0
   last : getD (now (c .before .before .before .before .before .before .before .args .to)) (c .before .loop .k) 0 ≤ c .before .before .before .before .before .before .before .args .m
   few : c .before .before .before .before .before .before .before .args .m ≤ 4096
-  before : getD (now (c .before .before .before .before .before .before .before .args .counts)) (getD (now (c .before .before .before .before .before .before .before .args .from)) (c .before .loop .k) 0 - 1) 0 ≤ c .before .before .before .before .before .before .before .args .m
+  onward : c .before .loop .passed ≤ getD (now (c .before .before .before .before .before .before .before .args .from)) (c .before .loop .k) 0 - 1
 
 on-line : (c : tie.In-loop Inv-loop μ-loop) → KthRange c
 on-line c =
     let p = c .before .before .before .before .before .before .before .pre in
     let k = c .before .loop .k in
     let h : k < c .before .before .before .before .before .before .before .args .n = omega arith in
-    let first = p .0 .first k h in
-    let order = p .0 .order k h in
-    let last = p .0 .last k h in
     record {
       here = h;
-      first = first;
-      order = order;
-      last = last;
+      first = p .0 .first k h;
+      order = p .0 .order k h;
+      last = p .0 .last k h;
       few = p .0 .line;
-      before = p .1 .1 .1 .0 (getD (now (c .before .before .before .before .before .before .before .args .from)) k 0 - 1) (omega arith);
+      onward = c .before .loop .inv .4 h;
     }
 
+-- the leaves before the k-th range
+low-count : (c : tie.After-ends-between Inv-loop μ-loop)
+    → c .before .before .before .loop .before + c .ends-between .result ≡ card (getD (now (c .before .before .before .before .before .before .before .before .before .args .from)) (c .before .before .before .loop .k) 0 - 1) (markedIn (now (c .before .before .before .before .before .before .before .before .before .args .ends)))
+low-count c = omega (arith, c .ends-between .ensures, c .before .before .before .loop .inv .3)
+
+-- and those up to its end
+high-count : (c : tie.After-ends-between2 Inv-loop μ-loop)
+    → c .before .before .before .before .before .loop .before + c .before .before .ends-between .result + c .ends-between2 .result ≡ card (getD (now (c .before .before .before .before .before .before .before .before .before .before .before .args .to)) (c .before .before .before .before .before .loop .k) 0) (markedIn (now (c .before .before .before .before .before .before .before .before .before .before .before .args .ends)))
+high-count c = omega (arith, c .ends-between2 .ensures, low-count (c .before .before))
+
 loop-holds : tie.Need-loop-holds Inv-loop μ-loop
+unfolding card
 loop-holds c = (
   omega arith,
   refl,
-  sym (ap (withNumbers (now (c .before .before .before .before .before .args .out)) (c .before .before .before .before .before .args .at)) (region-numbers-none (now (c .before .before .before .before .before .args .counts)) (now (c .before .before .before .before .before .args .from)) (now (c .before .before .before .before .before .args .to)) (now (c .before .before .before .before .before .args .bounds))) ∙ numbers-none _ _),
+  sym (ap (withNumbers (now (c .before .before .before .before .before .args .out)) (c .before .before .before .before .before .args .at)) (region-numbers-none (markedIn (now (c .before .before .before .before .before .args .ends))) (now (c .before .before .before .before .before .args .from)) (now (c .before .before .before .before .before .args .to)) (now (c .before .before .before .before .before .args .bounds))) ∙ numbers-none _ _),
+  refl,
+  λ h. omega arith,
 )
 
-mul-first : tie.Need-mul-first Inv-loop μ-loop
-mul-first c = search needs
+mul-low : tie.Need-mul-low Inv-loop μ-loop
+mul-low c = search needs
 
-shared-slice-read-first : tie.Need-shared-slice-read-first Inv-loop μ-loop
-shared-slice-read-first c = search needs
+shared-slice-read-low : tie.Need-shared-slice-read-low Inv-loop μ-loop
+shared-slice-read-low c = search needs
 
-sub-first : tie.Need-sub-first Inv-loop μ-loop
-sub-first c = omega (arith, on-line (c .before))
+sub-low : tie.Need-sub-low Inv-loop μ-loop
+sub-low c = omega (arith, on-line (c .before))
 
-cast-first : tie.Need-cast-first Inv-loop μ-loop
-cast-first c = omega (arith, c .shared-slice-known5 .given (c .before .before .loop .k))
+ends-between-requires : tie.Need-ends-between-requires Inv-loop μ-loop
+ends-between-requires c κs = let r = on-line (c .before) in (r .onward, (omega (arith, r, c .before .before .before .before .before .before .before .before .pre .1 .1 .0), c .before .before .before .before .before .before .before .before .pre .1 .1 .1 .0))
 
-mul-first-2 : tie.Need-mul-first-2 Inv-loop μ-loop
-mul-first-2 c = omega (arith, on-line (c .before))
-
-shared-slice-read-first-2 : tie.Need-shared-slice-read-first-2 Inv-loop μ-loop
-shared-slice-read-first-2 c = omega (arith, on-line (c .before .before), c .before .before .before .before .before .before .before .before .before .pre .1 .1 .0)
+add-before : tie.Need-add-before Inv-loop μ-loop
+add-before c = omega (arith, on-line (c .before .before), low-count (c), card-most (getD (now (c .before .before .before .before .before .before .before .before .before .args .from)) (c .before .before .before .loop .k) 0 - 1) (markedIn (now (c .before .before .before .before .before .before .before .before .before .args .ends))))
 
 add-first : tie.Need-add-first Inv-loop μ-loop
-add-first c = omega (arith, on-line (c .before .before))
+add-first c = omega (arith, on-line (c .before .before), low-count (c), card-most (getD (now (c .before .before .before .before .before .before .before .before .before .args .from)) (c .before .before .before .loop .k) 0 - 1) (markedIn (now (c .before .before .before .before .before .before .before .before .before .args .ends))))
 
-mul-last : tie.Need-mul-last Inv-loop μ-loop
-mul-last c = search needs
+mul-ends-between : tie.Need-mul-ends-between Inv-loop μ-loop
+mul-ends-between c = search needs
 
-shared-slice-read-last : tie.Need-shared-slice-read-last Inv-loop μ-loop
-shared-slice-read-last c = search needs
+shared-slice-read-ends-between : tie.Need-shared-slice-read-ends-between Inv-loop μ-loop
+shared-slice-read-ends-between c = search needs
 
-cast-last : tie.Need-cast-last Inv-loop μ-loop
-cast-last c = omega (arith, c .shared-slice-known7 .given (c .before .before .before .before .loop .k))
+ends-between-requires-2 : tie.Need-ends-between-requires-2 Inv-loop μ-loop
+ends-between-requires-2 c κs = let r = on-line (c .before .before .before) in (omega (arith, r), (omega (arith, r, c .before .before .before .before .before .before .before .before .before .before .pre .1 .1 .0), c .before .before .before .before .before .before .before .before .before .before .pre .1 .1 .1 .0))
 
-mul-last-2 : tie.Need-mul-last-2 Inv-loop μ-loop
-mul-last-2 c = omega (arith, on-line (c .before .before .before))
+add-last : tie.Need-add-last Inv-loop μ-loop
+add-last c = omega (arith, on-line (c .before .before .before .before), high-count (c), card-most (getD (now (c .before .before .before .before .before .before .before .before .before .before .before .args .to)) (c .before .before .before .before .before .loop .k) 0) (markedIn (now (c .before .before .before .before .before .before .before .before .before .before .before .args .ends))))
 
-shared-slice-read-last-2 : tie.Need-shared-slice-read-last-2 Inv-loop μ-loop
-shared-slice-read-last-2 c = omega (arith, on-line (c .before .before .before .before), c .before .before .before .before .before .before .before .before .before .before .before .pre .1 .1 .0)
+mul-t16 : tie.Need-mul-t16 Inv-loop μ-loop
+mul-t16 c = search needs
 
-mul-t13 : tie.Need-mul-t13 Inv-loop μ-loop
-mul-t13 c = search needs
-
-shared-slice-read-t16 : tie.Need-shared-slice-read-t16 Inv-loop μ-loop
-shared-slice-read-t16 c = omega (arith, on-line (c .before .before .before .before .before), c .before .before .before .before .before .before .before .before .before .before .before .before .pre .1 .0)
+shared-slice-read-t19 : tie.Need-shared-slice-read-t19 Inv-loop μ-loop
+shared-slice-read-t19 c = omega (arith, on-line (c .before .before .before .before .before), c .before .before .before .before .before .before .before .before .before .before .before .before .pre .1 .0)
 
 mul-put-numbers : tie.Need-mul-put-numbers Inv-loop μ-loop
 mul-put-numbers c = omega (arith, on-line (c .before .before .before .before .before .before))
@@ -117,15 +127,19 @@ loop-again c =
     let a = c .before .before .before .before .before .before .before .before .before .before .before .before .before .before .before .before .before .args in
     let k = c .before .before .before .before .before .before .before .before .before .before .before .loop .k in
     let inv = c .before .before .before .before .before .before .before .before .before .before .before .loop .inv in
-    let C = now (a .counts) in
+    let before = c .before .before .before .before .before .before .before .before .before .before .before .loop .before + c .before .before .before .before .before .before .before .before .ends-between .result in
+    let X = markedIn (now (a .ends)) in
     let A = now (a .from) in
     let B = now (a .to) in
     let Z = now (a .bounds) in (
       omega (arith, on-line (c .before .before .before .before .before .before .before .before .before .before)),
       c .before .before .put-numbers .kept .0 ∙ inv .1,
       c .before .before .put-numbers .ensures
-          ∙ ap (λ (l : List ℕ). withNumbers l (a .at + 6 * k) ((getD C (getD A k 0 - 1) 0 + 1) ∷ getD C (getD B k 0) 0 ∷ getD Z k 0 ∷ [])) (inv .2)
-          ∙ regions-more C A B Z (now (a .out)) (a .at) k,
+          ∙ ap (λ (l : List ℕ). withNumbers l (a .at + 6 * k) ((before + 1) ∷ (before + c .before .before .before .before .before .before .ends-between2 .result) ∷ getD Z k 0 ∷ [])) (inv .2)
+          ∙ ap₂ (λ (x y : ℕ). withNumbers (withNumbers (now (a .out)) (a .at) (regionNumbers k X A B Z)) (a .at + 6 * k) ((x + 1) ∷ y ∷ getD Z k 0 ∷ [])) (low-count (c .before .before .before .before .before .before .before .before)) (high-count (c .before .before .before .before .before .before))
+          ∙ regions-more X A B Z (now (a .out)) (a .at) k,
+      low-count (c .before .before .before .before .before .before .before .before),
+      λ h. omega (arith, c .before .before .before .before .before .before .before .before .before .before .before .before .before .before .before .before .before .pre .0 .rises k h),
     )
 
 same-length : tie.Need-same-length Inv-loop μ-loop
@@ -143,20 +157,18 @@ write-regions-spec =
     Inv-loop
     μ-loop
     loop-holds
-    mul-first
-    shared-slice-read-first
-    sub-first
-    cast-first
-    mul-first-2
-    shared-slice-read-first-2
+    mul-low
+    shared-slice-read-low
+    sub-low
+    ends-between-requires
+    add-before
     add-first
-    mul-last
-    shared-slice-read-last
-    cast-last
-    mul-last-2
-    shared-slice-read-last-2
-    mul-t13
-    shared-slice-read-t16
+    mul-ends-between
+    shared-slice-read-ends-between
+    ends-between-requires-2
+    add-last
+    mul-t16
+    shared-slice-read-t19
     mul-put-numbers
     add-put-numbers
     slice-aggregate-put-numbers
