@@ -1,15 +1,16 @@
 -- The leaf of a peptide: what `leaf_of` finds in an accepted family, by its promise.
-use Prim.Native.Nat.{ℕ, zero, suc, _-_, _<_, _≤_}
+use Prim.Native.Nat.{ℕ, _-_, _<_, _≤_}
 use native.Mathlib.Omega.{arith}
-use native.Mathlib.Numerals.{add-one}
-use mathlib.Core.Path.{_≡_, sym, ap}
-use lib.ListN.{getD}
+use mathlib.Core.Path.{_≡_}
+use mathlib.Core.Logic.{⊎-elim}
+use lib.Dec.{ltb}
+use borrow.Author.Tests.{ltb-true, ltb-false}
 use Rattle.reader.specs.Lists.{sum}
 use Rattle.reader.specs.Family.{Family, familyOf, leaves, leafLength, leafOf, peptidesUpTo}
-use Rattle.reader.specs.WellFormed.{WellFormed}
 use Rattle.reader.specs.Causes.{AcceptedFile}
+use Rattle.reader.proofs.Bools.{test}
 use Rattle.reader.proofs.Accepting.{well-formed}
-use Rattle.reader.proofs.Walk.{FirstReaching, up-to-next, leaf-found, leaf-not-empty}
+use Rattle.reader.proofs.Walk.{FirstReaching, upTo-mono, leaf-found, leaf-not-empty}
 
 abbrev pub familyIn : AcceptedFile → Family
 familyIn f = familyOf (f .file)
@@ -41,3 +42,42 @@ pub record LeafLaws : Type 0 where
   pub own : (f : AcceptedFile) (c : LeafCall f) → OfLeaf (familyIn f) (c .leaf) (c .peptide)
   -- and no other leaf's.
   pub only : (f : AcceptedFile) (c : LeafCall f) (j : ℕ) → 1 ≤ j → OfLeaf (familyIn f) j (c .peptide) → j ≡ c .leaf
+
+module _ (f : AcceptedFile) (c : LeafCall f) where
+  abbrev F : Family
+  F = familyIn f
+
+  most : c .peptide ≤ sum (F .lengths)
+  most = omega (arith, c .most, well-formed (f .file) (f .bytes) (f .accepted) .lengths-sum)
+
+  found : FirstReaching F (c .peptide) (c .leaf)
+  found = rw (c .promised) (leaf-found F (c .peptide) (c .some) most)
+
+  has-peptide : 1 ≤ leafLength F (c .leaf)
+  has-peptide = rw (c .promised) (leaf-not-empty F (c .peptide) (c .some) most)
+
+  is-own : OfLeaf F (c .leaf) (c .peptide)
+  is-own = record { after = found .first (c .leaf - 1) (omega (arith, found .some)); upto = found .reaches }
+
+  no-other : (j : ℕ) → 1 ≤ j → OfLeaf F j (c .peptide) → j ≡ c .leaf
+  no-other j some own =
+      ⊎-elim
+      (λ t. absurd (omega (arith, own .upto, found .first j (ltb-true j (c .leaf) t))))
+      (λ u.
+      ⊎-elim
+      (λ t. absurd (omega (arith, own .after, found .reaches, upTo-mono F (c .leaf) (j - 1) (omega (arith, ltb-true (c .leaf) j t)))))
+      (λ v. omega (arith, ltb-false j (c .leaf) u, ltb-false (c .leaf) j v))
+      (test (ltb (c .leaf) j)))
+      (test (ltb j (c .leaf)))
+
+pub leaf-laws : LeafLaws
+leaf-laws =
+    record {
+      a-leaf = λ f c. (found f c .some, found f c .leaf);
+      reaches = λ f c. found f c .reaches;
+      less-before = λ f c. is-own f c .after;
+      first = λ f c. found f c .first;
+      not-empty = has-peptide;
+      own = is-own;
+      only = no-other;
+    }

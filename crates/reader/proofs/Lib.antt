@@ -8,6 +8,7 @@ pub mod Walk
 pub mod First
 pub mod Climbing
 pub mod Accepting
+pub mod LeafLaws
 pub mod ParentLaws
 pub mod Files
 pub mod Examples

@@ -3,6 +3,7 @@
 --   getD-tabulate     it has f k at each place k below n
 --   tabulate-same     functions that agree below n give the same list
 --   sum-take-suc      the sum up to one element more; past the end nothing is added
+--   sum-take          the sum up to a later element is no less
 --   same-refl         the test `sameList` passes for a list and itself
 --   same-equal        lists for which it passes are equal
 --   not-same          it fails for lists that are not equal
@@ -13,7 +14,7 @@
 --   write-more        one element further
 --   write-first       the first
 --   zeros             a row of zeros reads 0 at every place, past its end too
-use Prim.Native.Nat.{ℕ, zero, suc, _+_, _<_}
+use Prim.Native.Nat.{ℕ, zero, suc, _+_, _<_, _≤_}
 use native.Mathlib.Nat.{not-suc-le-zero, le-of-suc-le-suc}
 use native.Mathlib.Omega.{arith}
 use native.Mathlib.Numerals.{add-one}
@@ -51,6 +52,13 @@ sum-take-suc [] zero = refl
 sum-take-suc [] (suc j) = refl
 sum-take-suc (x ∷ l) zero = omega arith
 sum-take-suc (x ∷ l) (suc j) = omega (arith, sum-take-suc l j)
+
+pub sum-take : (i j : ℕ) (L : List ℕ) → i ≤ j → sum (take i L) ≤ sum (take j L)
+unfolding sum
+sum-take zero j L h = omega arith
+sum-take (suc i) zero L h = absurd (omega arith)
+sum-take (suc i) (suc j) [] h = omega arith
+sum-take (suc i) (suc j) (x ∷ L) h = omega (arith, sum-take i j L (omega arith))
 
 pub same-refl : (l : List ℕ) → sameList l l ≡ true
 unfolding sameList

@@ -14,9 +14,9 @@ use borrow.Author.Tests.{ltb-true, ltb-false, le-ltb, leb-true, leb-false, le-le
 use Rattle.reader.specs.Lists.{sum}
 use Rattle.reader.specs.Bytes.{numberAt}
 use Rattle.reader.specs.Family.{Family, familyOf, leaves, leafLength, leafAfter, leafOf, peptidesUpTo}
-use Rattle.reader.specs.Private.Walking.{added, Capped, FoundAfter}
+use Rattle.reader.specs.Private.Walking.{added, Capped, FoundAfter, CountedTo}
 use Rattle.reader.proofs.Bools.{test}
-use Rattle.reader.proofs.Lists.{sum-take-suc}
+use Rattle.reader.proofs.Lists.{sum-take-suc, sum-take}
 use Rattle.reader.proofs.Parsed.{leaves-read, length-leaf, length-number}
 
 module _ (F : Family) where
@@ -53,6 +53,11 @@ module _ (F : Family) where
   pub up-to-end : (j : ℕ) → leaves F ≤ j → peptidesUpTo F j ≡ sum (F .lengths)
   unfolding peptidesUpTo
   up-to-end j h = ap sum (take-all j (F .lengths) h)
+
+  -- more leaves have no fewer peptides
+  pub upTo-mono : (i j : ℕ) → i ≤ j → peptidesUpTo F i ≤ peptidesUpTo F j
+  unfolding peptidesUpTo
+  upTo-mono i j h = sum-take i j (F .lengths) h
 
   pub nothing-before : peptidesUpTo F 0 ≡ 0
   unfolding peptidesUpTo sum
@@ -188,58 +193,79 @@ capped-more X before here =
       exact = λ small. let sum = here .exact small in omega (arith, sum, before .exact (omega (arith, sum)));
     }
 
--- Counting the leaves after leaf j up to which the lengths add to less than p: all i of them do, or those before the leaf that
--- is looked for are counted.
-abbrev pub CountedTo : Family → ℕ → ℕ → ℕ → ℕ → ℕ → Type 0
-CountedTo F j p i so-far count = ((so-far < p) × (count ≡ i)) ⊎ ((p ≤ so-far) × (count ≤ i - 1) × FoundAfter F j p (j + count + 1))
+-- Counting the leaves up to which the lengths add to less than p.
+module _ (s : List ℕ) (j p : ℕ) where
+  abbrev F : Family
+  F = familyOf s
 
-pub counted-none : (F : Family) (j p : ℕ) → j < leaves F → CountedTo F j p 0 0 0
-counted-none F j p l =
-    ⊎-elim (λ t. inl (ltb-true 0 p t, refl))
-    (λ f.
-    let none = ltb-false 0 p f in
-    inr (none, omega arith, sym (walk-stops F j p l (omega arith) ∙ omega arith)))
-    (test (ltb 0 p))
+  -- the lengths of the i leaves after leaf j
+  abbrev lengths : ℕ → ℕ
+  lengths i = added s (16 + 2 * j) i
 
-pub counted-more :
-    (s : List ℕ) (j p i so-far count : ℕ)
-    → j + i < numberAt s 6
-    → so-far ≡ added s (16 + 2 * j) i
-    → CountedTo (familyOf s) j p i so-far count
-    → (next : ℕ)
-    → next ≡ so-far + numberAt s (16 + 2 * j + 2 * i)
-    → (one : ℕ)
-    → one ≡ cond (ltb next p) 1 0
-    → CountedTo (familyOf s) j p (i + 1) next (count + one)
-counted-more s j p i so-far count l e (inl (less, all)) next more one o =
-    ⊎-elim
-    (λ t.
-    let counted : one ≡ 1 = o ∙ ap (λ (b : Bool). cond b 1 0) t in
-    inl (ltb-true next p t, omega (arith, counted, all)))
-    (λ f.
-    let F = familyOf s in
-    let over = ltb-false next p f in
-    let none : one ≡ 0 = o ∙ ap (λ (b : Bool). cond b 1 0) f in
-    let at : 16 + 2 * (j + i) ≡ 16 + 2 * j + 2 * i = omega arith in
-    let length = length-number s (j + i) l in
-    let end : j + i + 1 ≡ j + (count + one) + 1 = omega (arith, none, all) in
-    inr (
-      over,
-      omega (arith, none, all),
+  pub counted-none : CountedTo F j p 0 (lengths 0) 0
+  counted-none = inl (inr refl, refl)
+
+  -- the leaf after i that do not reach p reaches it
+  reached : (i : ℕ) → j + i < numberAt s 6 → lengths i < p → p ≤ lengths (i + 1) → FoundAfter F j p (j + i + 1)
+  reached i l less over =
+      let at : 16 + 2 * (j + i) ≡ 16 + 2 * j + 2 * i = omega arith in
+      let here = length-number s (j + i) l in
+      let few = leaves-read s in
       sym
-          (walk-passes F i j p (p - so-far) (omega (arith, leaves-read s)) (omega (arith, added-more s i j (omega arith))) (omega arith)
-          ∙ walk-stops F (j + i) (p - so-far) (omega (arith, leaves-read s)) (omega (arith, length, ap (numberAt s) at))
-          ∙ end),
-    ))
-    (test (ltb next p))
-counted-more s j p i so-far count l e (inr (over, few, found)) next more one o =
-    let none : one ≡ 0 = o ∙ ap (λ (b : Bool). cond b 1 0) (le-ltb next p (omega arith)) in
-    let same : j + (count + one) + 1 ≡ j + count + 1 = omega (arith, none) in
-    inr (omega arith, omega (arith, none), same ∙ found)
+      (walk-passes F i j p (p - lengths i) (omega arith) (omega (arith, added-more s i j (omega arith))) (omega arith)
+      ∙ walk-stops F (j + i) (p - lengths i) (omega arith) (omega (arith, here, ap (numberAt s) at, added-next s (16 + 2 * j) i)))
 
--- where they add to p or more, the leaf is found
-pub counted-all :
-    (F : Family) (j p i so-far count : ℕ)
-    → p ≤ so-far → CountedTo F j p i so-far count → (count ≤ i - 1) × FoundAfter F j p (j + count + 1)
-counted-all F j p i so-far count over (inl (less, all)) = absurd (omega arith)
-counted-all F j p i so-far count over (inr (reached, few, found)) = (few, found)
+  reached-first : (i : ℕ) → j + i < numberAt s 6 → (lengths i < p) ⊎ (i ≡ 0) → p ≤ lengths (i + 1) → FoundAfter F j p (j + i + 1)
+  unfolding added
+  reached-first i l (inl less) over = reached i l less over
+  reached-first i l (inr none) over =
+      let start : lengths i ≡ 0 = ap lengths none in
+      let few = leaves-read s in
+      ⊎-elim
+      (λ t. reached i l (omega (arith, start, ltb-true 0 p t)) over)
+      (λ f.
+      let here : j + i + 1 ≡ j + 1 = omega (arith, none) in
+      here ∙ sym (walk-stops F j p (omega arith) (omega (arith, ltb-false 0 p f))))
+      (test (ltb 0 p))
+
+  pub counted-more :
+      (i count one : ℕ) → j + i < numberAt s 6 → one ≡ cond (ltb (lengths (i + 1)) p) 1 0 → CountedTo F j p i (lengths i) count
+      → CountedTo F j p (i + 1) (lengths (i + 1)) (count + one)
+  counted-more i count one l o (inl (less, all)) =
+      ⊎-elim
+      (λ t.
+      let counted : one ≡ 1 = o ∙ ap (λ (b : Bool). cond b 1 0) t in
+      inl (inl (ltb-true (lengths (i + 1)) p t), omega (arith, counted, all)))
+      (λ f.
+      let over = ltb-false (lengths (i + 1)) p f in
+      let none : one ≡ 0 = o ∙ ap (λ (b : Bool). cond b 1 0) f in
+      let same : j + (count + one) + 1 ≡ j + i + 1 = omega (arith, none, all) in
+      inr (over, omega (arith, none, all), same ∙ reached-first i l less over))
+      (test (ltb (lengths (i + 1)) p))
+  counted-more i count one l o (inr (over, few, found)) =
+      let more : p ≤ lengths (i + 1) = omega (arith, over, added-next s (16 + 2 * j) i) in
+      let none : one ≡ 0 = o ∙ ap (λ (b : Bool). cond b 1 0) (le-ltb (lengths (i + 1)) p more) in
+      let same : j + (count + one) + 1 ≡ j + count + 1 = omega (arith, none) in
+      inr (more, omega (arith, none, few), same ∙ found)
+
+  -- where they add to p or more, the leaf is found
+  pub counted-reached :
+      (i count : ℕ) → 1 ≤ i → p ≤ lengths i → CountedTo F j p i (lengths i) count → (count < i) × FoundAfter F j p (j + count + 1)
+  counted-reached i count some over (inl (inl less, all)) = absurd (omega (arith, less, over))
+  counted-reached i count some over (inl (inr none, all)) = absurd (omega (arith, none, some))
+  counted-reached i count some over (inr (reached, few, found)) = (few, found)
+
+  -- where not all are counted, it is found too
+  pub counted-some : (i count : ℕ) → count < i → CountedTo F j p i (lengths i) count → FoundAfter F j p (j + count + 1)
+  counted-some i count fewer (inl (less, all)) = absurd (omega (arith, all, fewer))
+  counted-some i count fewer (inr (reached, few, found)) = found
+
+  -- and where all the last leaves are, there is none
+  pub counted-last : (i count : ℕ) → j + i ≡ leaves F → count ≡ i → CountedTo F j p i (lengths i) count → FoundAfter F j p 0
+  counted-last i count end all (inl (inl less, counted)) =
+      let few = leaves-read s in
+      sym
+      (walk-passes F i j p (p - lengths i) (omega (arith, end)) (omega (arith, less, added-more s i j (omega (arith, end, few)))) (omega (arith, less))
+      ∙ walk-ends F (j + i) (p - lengths i) (omega (arith, end)))
+  counted-last i count end all (inl (inr none, counted)) = sym (walk-ends F j p (omega (arith, none, end)))
+  counted-last i count end all (inr (reached, few, found)) = absurd (omega (arith, all, few))

@@ -3,6 +3,7 @@ use crate::bytes::number_at;
 use crate::bytes::number_within;
 use crate::leaf_walk::Passed;
 use crate::leaf_walk::leaf_by_leaf;
+use crate::leaf_walk::leaf_of_last;
 use crate::leaf_walk::leaf_of_sixteen;
 use crate::leaf_walk::pass_blocks;
 ghost use mathlib.Core.Path.{_≡_};
@@ -59,8 +60,7 @@ pub fn leaf_length(file: &[u8], leaf: Leaf) -> u16
     number_at(file, 14 + 2 * (j as usize))
 }
 
-// The leaf of a peptide, found by walking the leaf lengths; leaf 0 where they end before it. Few leaves, and those of a file that
-// lacks some, are walked one by one.
+// The leaf of a peptide, found by walking the leaf lengths; leaf 0 where they end before it.
 pub fn leaf_of(file: &[u8], peptide: Peptide) -> Leaf
     ensures { λ r. ⌜ r .0 ≡ leafOf (familyOf (now (file .entry))) (peptide .0) ⌝ }
 {
@@ -69,17 +69,17 @@ pub fn leaf_of(file: &[u8], peptide: Peptide) -> Leaf
         leaf: Leaf(0),
         left: peptide.0,
     };
-    if leaves < 16 {
-        return leaf_by_leaf(file, start);
-    }
     if file.len() < 16 + 2 * (leaves as usize) {
         return leaf_by_leaf(file, start);
     }
+    if leaves < 16 {
+        return leaf_of_last(file, start, leaves);
+    }
     let far = pass_blocks(file, start, 8);
     let near = pass_blocks(file, far, 2);
-    let passed = near.leaf.0;
-    if leaves - passed < 16 {
-        leaf_by_leaf(file, near)
+    let rest = leaves - near.leaf.0;
+    if rest < 16 {
+        leaf_of_last(file, near, rest)
     } else {
         leaf_of_sixteen(file, near)
     }

@@ -10,7 +10,7 @@ ghost use Prim.Native.Nat.{_+_, _*_, _≤_};
 ghost use lib.ListN.{length};
 ghost use lib.Dec.{ltb};
 ghost use Rattle.reader.specs.Family.{familyOf, leaves};
-ghost use Rattle.reader.specs.Private.Walking.{added, Capped, laneSum, Walked, FoundAfter, LengthsWithin};
+ghost use Rattle.reader.specs.Private.Walking.{added, Capped, laneSum, Walked, FoundAfter, CountedTo, LengthsWithin};
 
 // Where a walk stands: the last leaf passed, 0 before the first, and the peptide's number less the peptides passed.
 pub(crate) struct Passed {
@@ -129,8 +129,27 @@ fn one_if_less(a: u32, b: u32) -> u16
     if a < b { 1 } else { 0 }
 }
 
-// The leaf of the peptide where it is one of the next sixteen: it comes after those up to which the lengths add to less. All
-// sixteen are looked at, since a way out that cannot be foreseen costs more.
+// How many of the next n leaves end before the peptide. All n are looked at: a way out of the loop that cannot be foreseen costs
+// more than these few.
+fn leaves_before(file: &[u8], from: Passed, n: u16) -> u16
+    requires { ⌜ LengthsWithin (now file) ⌝ }
+    requires { ⌜ (from .leaf .0 + n ≤ leaves (familyOf (now file))) × (leaves (familyOf (now file)) ≤ 65535) ⌝ }
+    ensures { λ r. ⌜ CountedTo (familyOf (now (file .entry))) (from .leaf .0) (from .left) n (added (now (file .entry)) (16 + 2 * (from .leaf .0)) n) r ⌝ }
+    ensures { λ r. ⌜ r ≤ n ⌝ }
+{
+    let at = 16 + 2 * (from.leaf.0 as usize);
+    let mut sum: u32 = 0;
+    let mut count: u16 = 0;
+    let mut i: u16 = 0;
+    while i < n {
+        sum += number_within(file, at + 2 * (i as usize)) as u32;
+        count += one_if_less(sum, from.left as u32);
+        i += 1;
+    }
+    count
+}
+
+// The leaf of the peptide where it is one of the next sixteen.
 pub(crate) fn leaf_of_sixteen(file: &[u8], from: Passed) -> Leaf
     requires { ⌜ LengthsWithin (now file) ⌝ }
     requires { ⌜ (from .leaf .0 + 16 ≤ leaves (familyOf (now file))) × (leaves (familyOf (now file)) ≤ 65535) ⌝ }
@@ -138,21 +157,25 @@ pub(crate) fn leaf_of_sixteen(file: &[u8], from: Passed) -> Leaf
     ensures { λ r. ⌜ FoundAfter (familyOf (now (file .entry))) (from .leaf .0) (from .left) (r .0) ⌝ }
 {
     let passed = from.leaf.0;
-    let at = 16 + 2 * (passed as usize);
-    let left = from.left as u32;
-    let mut sum: u32 = 0;
-    let mut count: u16 = 0;
-    let mut i: usize = 0;
-    while i < 16 {
-        sum += number_within(file, at + 2 * i) as u32;
-        count += one_if_less(sum, left);
-        i += 1;
+    let ended = leaves_before(file, from, 16);
+    Leaf(passed + ended + 1)
+}
+
+// The leaf of the peptide where only n leaves are left; leaf 0 where the lengths end before it.
+pub(crate) fn leaf_of_last(file: &[u8], from: Passed, n: u16) -> Leaf
+    requires { ⌜ LengthsWithin (now file) ⌝ }
+    requires { ⌜ (from .leaf .0 + n ≡ leaves (familyOf (now file))) × (leaves (familyOf (now file)) ≤ 65535) ⌝ }
+    ensures { λ r. ⌜ FoundAfter (familyOf (now (file .entry))) (from .leaf .0) (from .left) (r .0) ⌝ }
+{
+    let passed = from.leaf.0;
+    let count = leaves_before(file, from, n);
+    if count == n {
+        return Leaf(0);
     }
     Leaf(passed + count + 1)
 }
 
-// The leaf of the peptide, looked for leaf by leaf; leaf 0 where the lengths end before it. What lies past the end of the file
-// counts as 0.
+// The leaf of the peptide in a file that lacks some of the lengths, leaf by leaf: what lies past the end counts as 0.
 pub(crate) fn leaf_by_leaf(file: &[u8], from: Passed) -> Leaf
     requires { ⌜ from .leaf .0 ≤ leaves (familyOf (now file)) ⌝ }
     ensures { λ r. ⌜ FoundAfter (familyOf (now (file .entry))) (from .leaf .0) (from .left) (r .0) ⌝ }

@@ -9,7 +9,7 @@ use native.Mathlib.Omega.{arith}
 use lib.ListN.{length, getD}
 use Rattle.reader.specs.Family.{Family, leaves, regionCount, region, peptidesUpTo}
 use Rattle.reader.specs.WellFormed.{WellFormed}
-use Rattle.reader.proofs.Walk.{up-to-end, nothing-before}
+use Rattle.reader.proofs.Walk.{up-to-end, nothing-before, upTo-mono}
 use Rattle.bounds.specs.Ranges.{Range, Peptides, card, count, those, sumOver, justInside, parts, rangeOf, rangesOf, rangeAt}
 use Rattle.bounds.specs.Bound.{total, value}
 use Rattle.bounds.specs.Private.Rows.{wholeLine, rowRange, leafBefore, lastLeaf}
@@ -18,7 +18,7 @@ use Rattle.bounds.proofs.Basics.Counting.{count-between, partition-in}
 use Rattle.bounds.proofs.Basics.Nesting.{Inside, just-facts, just-holds, part-facts}
 use Rattle.bounds.proofs.Theory.Laminar.{Hosts, member-hosts, parts-apart, Around, around-hosts}
 use Rattle.bounds.proofs.Theory.Totals.{total-is}
-use Rattle.bounds.proofs.Theory.Family.{upTo-mono, noRange, ranges-length, range-at, range-in, family-laminar, leaf-most, OfRegion, of-region}
+use Rattle.bounds.proofs.Theory.Family.{noRange, ranges-length, range-at, range-in, family-laminar, leaf-most, OfRegion, of-region}
 
 -- Sums over the numbers below a limit.
 

@@ -12,26 +12,14 @@ use Rattle.reader.specs.Lists.{tabulate, sum}
 use Rattle.reader.specs.Bytes.{IsBytes}
 use Rattle.reader.specs.Causes.{Accepted}
 use Rattle.reader.specs.WellFormed.{WellFormed}
-use Rattle.reader.proofs.Lists.{tabulate-same}
+use Rattle.reader.proofs.Lists.{sum-take, tabulate-same}
 use Rattle.reader.proofs.Parsed.{length-leaf}
-use Rattle.reader.proofs.Walk.{up-to-next}
+use Rattle.reader.proofs.Walk.{up-to-next, upTo-mono}
 use Rattle.reader.proofs.Accepting.{well-formed}
 use Rattle.reader.specs.Family.{Region, Family, leaves, regionCount, noRegion, region, leafLength, peptidesUpTo, familyOf}
 use Rattle.bounds.specs.Ranges.{Range, rangeOf, rangesOf, In, rangeAt}
 use Rattle.bounds.proofs.Basics.Members.{in-at, place}
 use Rattle.bounds.proofs.Theory.Laminar.{Fit, isAround, isBefore, Proper, Laminar, laminar-at}
-
-sum-take : (i j : ℕ) (L : List ℕ) → i ≤ j → sum (take i L) ≤ sum (take j L)
-unfolding sum
-sum-take zero j L h = omega arith
-sum-take (suc i) zero L h = absurd (omega arith)
-sum-take (suc i) (suc j) [] h = omega arith
-sum-take (suc i) (suc j) (x ∷ L) h = omega (arith, sum-take i j L (omega arith))
-
--- more leaves have no fewer peptides
-pub upTo-mono : (F : Family) (i j : ℕ) → i ≤ j → peptidesUpTo F i ≤ peptidesUpTo F j
-unfolding peptidesUpTo
-upTo-mono F i j h = sum-take i j (F .lengths) h
 
 pub upTo-most : (F : Family) (i : ℕ) → i ≤ leaves F → peptidesUpTo F i ≤ sum (F .lengths)
 unfolding peptidesUpTo

@@ -15,7 +15,7 @@ use Rattle.reader.specs.Family.{Family, leaves, regionCount, region, leafOf}
 use Rattle.reader.specs.WellFormed.{WellFormed}
 use Rattle.reader.proofs.Below.{some-at, found}
 use Rattle.reader.proofs.Lists.{length-tabulate, getD-tabulate}
-use Rattle.reader.proofs.Walk.{FirstReaching, leaf-found}
+use Rattle.reader.proofs.Walk.{FirstReaching, leaf-found, upTo-mono}
 use Rattle.bounds.specs.Ranges.{Peptides, rangeOf, rangeAt, rangesOf, has, count}
 use Rattle.bounds.specs.Curves.{entry, markAt, curveMarks, largestUpTo}
 use Rattle.bounds.specs.Private.Walks.{holdsLeaf, crowded, MarkedNext, marksUpTo, MarksOf, Distinct}
@@ -23,7 +23,7 @@ use Rattle.bounds.proofs.Basics.Members.{test, both-ways, and-l, and-r,
 use Rattle.bounds.proofs.Basics.Counting.{none, adding, count-none, count-adding, count-adding-other}
 use Rattle.bounds.proofs.Basics.Nesting.{has-facts, has-holds}
 use Rattle.bounds.proofs.Theory.Greedy.{blocked, blocked-facts, blocked-holds, greedy}
-use Rattle.bounds.proofs.Theory.Family.{upTo-mono, range-in, of-region}
+use Rattle.bounds.proofs.Theory.Family.{range-in, of-region}
 use Rattle.bounds.proofs.Walking.Holding.{crowdedAt, holds-facts, from-holds}
 use Rattle.bounds.proofs.Theory.Marks.{markedSet, stops, marked-stays, marked-grows, entry-next, mark-is, entry-start, not-marked}
 

@@ -1,6 +1,7 @@
 -- What the private functions that walk along the leaf lengths ask of each other and promise.
 use Prim.Native.Nat.{ℕ, zero, suc, _+_, _*_, _<_, _≤_}
 use mathlib.Core.List.{List}
+use mathlib.Core.Logic.{_⊎_}
 use mathlib.Core.Path.{_≡_}
 use lib.ListN.{length, drop}
 use Rattle.reader.specs.Bytes.{numberAt}
@@ -34,3 +35,8 @@ pub record Walked (s : List ℕ) (n j p i q : ℕ) : Type 0 where
   pub leaf : i ≤ leaves (familyOf s)
   pub same : leafAfter j (drop j (familyOf s .lengths)) p ≡ leafAfter i (drop i (familyOf s .lengths)) q
   pub here : i + n ≤ leaves (familyOf s) → q ≤ added s (16 + 2 * i) n
+
+-- Of the i leaves after leaf j, whose lengths add to `sum`, those are counted up to which they add to less than p: they all are, or
+-- the leaf that is looked for comes after them.
+abbrev pub CountedTo : Family → ℕ → ℕ → ℕ → ℕ → ℕ → Type 0
+CountedTo F j p i sum count = (((sum < p) ⊎ (i ≡ 0)) × (count ≡ i)) ⊎ ((p ≤ sum) × (count < i) × FoundAfter F j p (j + count + 1))

@@ -16,7 +16,8 @@ use Rattle.reader.proofs.Below.{below-next}
 use Rattle.bounds.specs.Ranges.{rangeOf, rangesOf, rangeAt}
 use Rattle.bounds.proofs.Basics.Members.{test, le-or-lt}
 use Rattle.bounds.proofs.Basics.Nesting.{has-facts, has-holds}
-use Rattle.bounds.proofs.Theory.Family.{range-in, upTo-mono, range-z, leaf-most, of-region}
+use Rattle.reader.proofs.Walk.{upTo-mono}
+use Rattle.bounds.proofs.Theory.Family.{range-in, range-z, leaf-most, of-region}
 use Rattle.reduction.specs.Reduction.{live}
 use Rattle.reduction.specs.Private.Passes.{LiveMarked, LiveUpTo, Reached}
 use Rattle.reduction.proofs.Theory.Live.{dead-facts, dead-holds}

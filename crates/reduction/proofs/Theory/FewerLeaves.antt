@@ -10,7 +10,7 @@ use Rattle.reader.specs.Family.{Family, leaves, region, peptidesUpTo}
 use Rattle.bounds.specs.Ranges.{Range, Peptides, card, rangeOf, rangesOf}
 use Rattle.bounds.proofs.Basics.Members.{le-or-lt, refuted}
 use Rattle.bounds.proofs.Theory.Laminar.{Laminar}
-use Rattle.bounds.proofs.Theory.Family.{upTo-mono}
+use Rattle.reader.proofs.Walk.{upTo-mono}
 use Rattle.reduction.specs.Reduction.{reduced, endsLeaf, reducedFamily}
 use Rattle.reduction.proofs.Basics.Counts.{card-step}
 use Rattle.reduction.proofs.Theory.Cuts.{Edge, cut-edge}

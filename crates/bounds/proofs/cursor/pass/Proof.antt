@@ -3,7 +3,8 @@ use native.Mathlib.Omega.{arith}
 use mathlib.Core.Path.{refl}
 use denote.Ref.{now}
 use Rattle.reader.specs.Family.{familyOf}
-use Rattle.bounds.proofs.Theory.Family.{upTo-mono, leaf-most}
+use Rattle.reader.proofs.Walk.{upTo-mono}
+use Rattle.bounds.proofs.Theory.Family.{leaf-most}
 use Rattle.bounds.proofs.cursor.pass.Statement.{statement}
 use Rattle.bounds.proofs.cursor.pass.Tie as tie
 
