@@ -16,7 +16,17 @@
  *     phf_choose_... may leave flags of such exceptions set.
  *
  * No function keeps anything from one call to the next, allocates, or fails otherwise than by the number it returns.
- * All may be called from several threads at once. They need up to 512 KB of stack.
+ * All may be called from several threads at once.
+ *
+ * STACK. Working arrays lie on the stack. With what it calls, each function needs at most (KB are 1,024 bytes; measured on the
+ * largest and deepest families with this library, not proved; a test makes every call on just that much):
+ *     phf_check, phf_regions                                        28 KB
+ *     phf_bound                                                     32 KB
+ *     phf_curve                                                     44 KB
+ *     phf_cut                                                       48 KB
+ *     phf_reduce                                                   156 KB
+ *     phf_same                                                     268 KB
+ *     phf_choose_at_most, phf_choose_between, phf_choose_volcano     4 KB
  *
  * BUILDING. tools/staticlib proves the functions and writes target/staticlib/libphf.a, to link with a program;
  * tools/sharedlib makes target/sharedlib/libphf.so of it. Both run in any folder and print where the library is.

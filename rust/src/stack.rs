@@ -1,6 +1,7 @@
 //! A stack of a given size for a call, with memory below it that may not be touched, and how much of it the call has used.
 //! For the processor that the library is built for, x86-64 under Linux.
 
+use crate::phf;
 use std::arch::asm;
 use std::ffi::c_void;
 use std::ptr::null_mut;
@@ -100,4 +101,70 @@ fn run_on(top: *mut u8, job: &mut dyn FnMut()) {
             clobber_abi("C"),
         );
     }
+}
+
+/// A call to be made on a stack of its own.
+pub struct Call<'a> {
+    pub name: &'static str,
+    /// The bytes of stack that include/phf.h states for it.
+    pub stated: usize,
+    /// Makes it, with room for every output, and gives back its number; for the part with the regions, which has none, 0 if
+    /// it is not empty.
+    pub make: Box<dyn FnMut() -> u16 + 'a>,
+}
+
+/// Every call of the library with one family and one path; everything is selected, and the choices are of 4,096 rows.
+pub fn every_call<'a>(file: &'a [u8], path: &'a [u16]) -> Vec<Call<'a>> {
+    let m = usize::from(u16::from_le_bytes([file[4], file[5]]));
+    let (mut values, mut marks) = (vec![0; 4097], vec![0; 4096]);
+    let (selection, mut taken, mut out) = (vec![1; m], vec![0; 8191], vec![0; 57354]);
+    let mut calls = Vec::new();
+    let mut add = |name, kilobytes: usize, make: Box<dyn FnMut() -> u16 + 'a>| {
+        let stated = 1024 * kilobytes;
+        calls.push(Call { name, stated, make });
+    };
+    add("phf_check", 28, Box::new(|| phf::check(file).number));
+    let empty = |file| (phf::regions(file).length == 0) as u16;
+    add("phf_regions", 28, Box::new(move || empty(file)));
+    add(
+        "phf_bound",
+        32,
+        Box::new(move || phf::bound(file, &selection, &mut taken).number),
+    );
+    add(
+        "phf_curve",
+        44,
+        Box::new(move || phf::curve(file, path, &mut values, &mut marks).number),
+    );
+    add(
+        "phf_cut",
+        48,
+        Box::new(|| phf::cut(file, path, 1, 10).number),
+    );
+    add(
+        "phf_reduce",
+        156,
+        Box::new(move || phf::reduce(file, &mut out).number),
+    );
+    add("phf_same", 268, Box::new(|| phf::same(file, file).number));
+    let rows = || (vec![0.05; 4096], vec![-2.0; 4096], vec![0; 4096]);
+    let (p, folds, mut chosen) = rows();
+    add(
+        "phf_choose_at_most",
+        4,
+        Box::new(move || phf::choose_at_most(4096, &p, &folds, 0.05, &mut chosen)),
+    );
+    let (p, folds, mut chosen) = rows();
+    add(
+        "phf_choose_between",
+        4,
+        Box::new(move || phf::choose_between(4096, &p, &folds, 0.01, 0.05, &mut chosen)),
+    );
+    let (p, folds, mut chosen) = rows();
+    add(
+        "phf_choose_volcano",
+        4,
+        Box::new(move || phf::choose_volcano(4096, &p, &folds, 0.05, 1.0, &mut chosen)),
+    );
+    calls
 }

@@ -2,11 +2,12 @@
 //! one run. Prints the tables of docs/PERFORMANCE.md. Before anything is measured the two must answer the same.
 
 use phf_tests::families::{
-    all_but_one_empty, binary_tree, binary_tree_on, chain, eight_peptides, family, has_empty_leaf,
-    towers, Bounds,
+    all_but_one_empty, binary_tree, binary_tree_on, chain, deepest_tree, eight_peptides, family,
+    has_empty_leaf, towers, Bounds,
 };
 use phf_tests::random::Random;
 use phf_tests::reference::{check, file_of, Family, Region, Rule};
+use phf_tests::stack::{every_call, Stack};
 use phf_tests::{fast, phf};
 use std::hint::black_box;
 use std::time::{Duration, Instant};
@@ -621,6 +622,33 @@ fn selections_table() -> bool {
     all_met
 }
 
+/// The stack that each call needs: the most of several large families.
+fn stack_table() {
+    println!("| call | bytes of stack used | KB stated |");
+    println!("|---|---|---|");
+    let random = &mut Random::new(9);
+    let files = [
+        file_of(&towers(random, 4096, 64, Bounds::Mixed)),
+        file_of(&deepest_tree(random, Bounds::Mixed)),
+        file_of(&binary_tree(random, 4096, 1, Bounds::Mixed)),
+        file_of(&chain(4096, 64, 3000)),
+    ];
+    let path = random.order(4096);
+    let mut most: Vec<(&str, usize, usize)> = Vec::new();
+    for file in &files {
+        for (k, mut call) in every_call(file, &path).into_iter().enumerate() {
+            let used = Stack::new(1 << 20).used(&mut call.make);
+            if k == most.len() {
+                most.push((call.name, 0, call.stated));
+            }
+            most[k].1 = most[k].1.max(used);
+        }
+    }
+    for (name, used, stated) in most {
+        println!("| {name} | {used} | {} |", stated / 1024);
+    }
+}
+
 fn main() {
     println!("### Calls\n");
     let calls_met = calls_table();
@@ -634,6 +662,8 @@ fn main() {
     let worst = check_table();
     println!("\n### Growth\n");
     growth_table();
+    println!("\n### Stack\n");
+    stack_table();
     println!(
         "\nNo call over 1.5 times the Rust one: {met}. Worst check: {} µs.",
         micro(worst)
