@@ -1,5 +1,5 @@
-// The file of the reduced ranges, written at the start of the output: where its leaves end, and from this the header,
-// the leaf lengths and the regions.
+// The file of the reduced ranges, written at the start of the output: where ranges begin and end, and from this the header, the
+// leaf lengths and the regions.
 use crate::Size;
 use reader::family::peptide_count;
 ghost use mathlib.Core.Path.{_≡_};
@@ -63,51 +63,52 @@ fn write_header(m: u16, leaves: u16, regions: u16, out: &mut [u8]) -> u16
     total
 }
 
-// Marks where leaves end. Place 0 is marked too where a range begins at peptide 1; nobody asks there.
-fn mark_ends(m: u16, n: u16, from: &[u16], to: &[u16], ends: &mut [u8])
+// Marks the peptides after which a range begins or at which one ends, and m: there the leaves of the file to be written end. Place
+// 0 is marked too where a range begins at peptide 1; nobody asks there.
+fn mark_borders(m: u16, n: u16, from: &[u16], to: &[u16], borders: &mut [u8])
     requires { ⌜ OnLine m n (now from) (now to) ⌝ }
-    requires { ⌜ 4096 < length (now ends) ⌝ }
-    requires { ⌜ ((p : ℕ) → getD (now ends) p 0 ≡ 0) ⌝ }
-    ensures { λ _. ⌜ Marks (now (ends .exit)) (endsAt m n (now (from .entry)) (now (to .entry))) ⌝ }
+    requires { ⌜ 4096 < length (now borders) ⌝ }
+    requires { ⌜ ((p : ℕ) → getD (now borders) p 0 ≡ 0) ⌝ }
+    ensures { λ _. ⌜ Marks (now (borders .exit)) (endsAt m n (now (from .entry)) (now (to .entry))) ⌝ }
 {
-    ends[m as usize] = 1;
+    borders[m as usize] = 1;
     let mut k: usize = 0;
     while k < n as usize {
-        ends[(from[k] - 1) as usize] = 1;
-        ends[to[k] as usize] = 1;
+        borders[(from[k] - 1) as usize] = 1;
+        borders[to[k] as usize] = 1;
         k += 1;
     }
 }
 
-// How many leaves of the file to be written end after the first peptide, and up to the second.
-fn ends_between(ends: &[u8], after: u16, upto: u16) -> u16
+// How many leaves of the file to be written end after the first peptide named, and up to the second: a walk along the line.
+fn borders_between(borders: &[u8], after: u16, upto: u16) -> u16
     requires { ⌜ after ≤ upto ⌝ }
-    requires { ⌜ upto < length (now ends) ⌝ }
-    requires { ⌜ Marks (now ends) (markedIn (now ends)) ⌝ }
-    ensures { λ r. ⌜ r + card after (markedIn (now (ends .entry))) ≡ card upto (markedIn (now (ends .entry))) ⌝ }
+    requires { ⌜ upto < length (now borders) ⌝ }
+    requires { ⌜ Marks (now borders) (markedIn (now borders)) ⌝ }
+    ensures { λ r. ⌜ r + card after (markedIn (now (borders .entry))) ≡ card upto (markedIn (now (borders .entry))) ⌝ }
 {
     let end = upto as usize;
     let mut p = after as usize;
     let mut count: u16 = 0;
     while p < end {
-        count += ends[p + 1] as u16;
+        count += borders[p + 1] as u16;
         p += 1;
     }
     count
 }
 
 // Writes the length of each leaf, from one leaf end to the next.
-fn write_lengths(m: u16, ends: &[u8], out: &mut [u8])
-    requires { ⌜ m < length (now ends) ⌝ }
-    requires { ⌜ 16 + 2 * card m (markedIn (now ends)) ≤ length (now out) ⌝ }
-    ensures { λ _. ⌜ now (out .exit) ≡ withNumbers (now (out .entry)) 16 (leafLengths m (markedIn (now (ends .entry)))) ⌝ }
+fn write_lengths(m: u16, borders: &[u8], out: &mut [u8])
+    requires { ⌜ m < length (now borders) ⌝ }
+    requires { ⌜ 16 + 2 * card m (markedIn (now borders)) ≤ length (now out) ⌝ }
+    ensures { λ _. ⌜ now (out .exit) ≡ withNumbers (now (out .entry)) 16 (leafLengths m (markedIn (now (borders .entry)))) ⌝ }
 {
     let mut at: usize = 16;
     let mut last: u16 = 0;
     let mut p: u16 = 0;
     while p < m {
         p += 1;
-        if ends[p as usize] == 1 {
+        if borders[p as usize] == 1 {
             put_number(out, at, p - last);
             at += 2;
             last = p;
@@ -123,35 +124,35 @@ fn write_regions(
     from: &[u16],
     to: &[u16],
     bounds: &[u16],
-    ends: &[u8],
+    borders: &[u8],
     at: usize,
     out: &mut [u8],
 )
     requires { ⌜ OnLine m n (now from) (now to) ⌝ }
     requires { ⌜ n ≤ length (now bounds) ⌝ }
-    requires { ⌜ m < length (now ends) ⌝ }
-    requires { ⌜ Marks (now ends) (markedIn (now ends)) ⌝ }
+    requires { ⌜ m < length (now borders) ⌝ }
+    requires { ⌜ Marks (now borders) (markedIn (now borders)) ⌝ }
     requires { ⌜ at + 6 * n ≤ length (now out) ⌝ }
-    ensures { λ _. ⌜ now (out .exit) ≡ withNumbers (now (out .entry)) at (regionNumbers n (markedIn (now (ends .entry))) (now (from .entry)) (now (to .entry)) (now (bounds .entry))) ⌝ }
+    ensures { λ _. ⌜ now (out .exit) ≡ withNumbers (now (out .entry)) at (regionNumbers n (markedIn (now (borders .entry))) (now (from .entry)) (now (to .entry)) (now (bounds .entry))) ⌝ }
 {
     let mut passed: u16 = 0;
     let mut before: u16 = 0;
     let mut k: usize = 0;
     while k < n as usize {
         let low = from[k] - 1;
-        before += ends_between(ends, passed, low);
+        before += borders_between(borders, passed, low);
         passed = low;
         let first = before + 1;
-        let last = before + ends_between(ends, low, to[k]);
+        let last = before + borders_between(borders, low, to[k]);
         let region = [first, last, bounds[k]];
         put_numbers(out, at + 6 * k, &region);
         k += 1;
     }
 }
 
-// Writes the file of the reduced ranges at the start of the output. `ends` has a byte for each peptide, 1 where that file
-// parts it from the next one. It is no table that finds the leaf of a peptide: the leaf lengths of the file to be written
-// do not exist yet, and are made from it.
+// Writes the file of the reduced ranges at the start of the output. `borders` has a byte for each peptide, 1 where a range begins
+// after it or ends with it. The leaf lengths of that file, which do not exist yet, are made from it; no leaf of a family that is read
+// is looked up in it.
 pub(crate) fn write_reduced(
     file: &[u8],
     n: u16,
@@ -166,18 +167,18 @@ pub(crate) fn write_reduced(
     ensures { λ r. ⌜ Wrote (now (file .entry)) (now (out .entry)) (now (out .exit)) (r .bytes) (r .regions) ⌝ }
 {
     let m = peptide_count(file);
-    let mut ends = [0u8; 4097];
-    mark_ends(m, n, from, to, &mut ends);
-    let leaves = ends_between(&ends, 0, m);
+    let mut borders = [0u8; 4097];
+    mark_borders(m, n, from, to, &mut borders);
+    let leaves = borders_between(&borders, 0, m);
     let total = write_header(m, leaves, n, out);
-    write_lengths(m, &ends, out);
+    write_lengths(m, &borders, out);
     write_regions(
         m,
         n,
         from,
         to,
         bounds,
-        &ends,
+        &borders,
         16 + 2 * (leaves as usize),
         out,
     );

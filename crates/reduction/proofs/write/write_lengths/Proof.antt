@@ -17,31 +17,31 @@ use Rattle.reduction.proofs.write.write_lengths.Statement.{statement}
 use Rattle.reduction.proofs.write.write_lengths.Tie as tie
 
 abbrev Inv-loop : tie.InvT-loop
-Inv-loop m ends out₀ at₀ last₀ p₀ out at last p =
+Inv-loop m borders out₀ at₀ last₀ p₀ out at last p =
     (p ≤ m)
-    × (last ≡ lastOf p (markedIn ends))
-    × (at ≡ 16 + 2 * card p (markedIn ends))
+    × (last ≡ lastOf p (markedIn borders))
+    × (at ≡ 16 + 2 * card p (markedIn borders))
     × (length out ≡ length out₀)
-    × (out ≡ withNumbers out₀ 16 (leafLengths p (markedIn ends)))
+    × (out ≡ withNumbers out₀ 16 (leafLengths p (markedIn borders)))
 
 abbrev μ-loop : tie.MeasureT-loop
-μ-loop m ends out₀ at₀ last₀ p₀ out at last p = m - p
+μ-loop m borders out₀ at₀ last₀ p₀ out at last p = m - p
 
 -- a leaf ends at p + 1
-ending : (c : tie.Then1 Inv-loop μ-loop) → LeafEnds (markedIn (now (c .before .before .before .before .before .before .args .ends))) (c .before .before .before .loop .p)
+ending : (c : tie.Then1 Inv-loop μ-loop) → LeafEnds (markedIn (now (c .before .before .before .before .before .before .args .borders))) (c .before .before .before .loop .p)
 unfolding markedIn
-ending c = leaf-ends (markedIn (now (c .before .before .before .before .before .before .args .ends))) (c .before .before .before .loop .p) (eq-eqb _ 1 (c .if1 .taken))
+ending c = leaf-ends (markedIn (now (c .before .before .before .before .before .before .args .borders))) (c .before .before .before .loop .p) (eq-eqb _ 1 (c .if1 .taken))
 
 -- it has room
-room : (c : tie.Then1 Inv-loop μ-loop) → 16 + 2 * card (c .before .before .before .loop .p) (markedIn (now (c .before .before .before .before .before .before .args .ends))) + 2 ≤ length (now (c .before .before .before .before .before .before .args .out))
+room : (c : tie.Then1 Inv-loop μ-loop) → 16 + 2 * card (c .before .before .before .loop .p) (markedIn (now (c .before .before .before .before .before .before .args .borders))) + 2 ≤ length (now (c .before .before .before .before .before .before .args .out))
 room c =
-    let X = markedIn (now (c .before .before .before .before .before .before .args .ends)) in
+    let X = markedIn (now (c .before .before .before .before .before .before .args .borders)) in
     let p = c .before .before .before .loop .p in
     omega (arith, c .before .before .before .before .before .before .pre .1, ending c .count, card-up X (p + 1) (c .before .before .before .before .before .before .args .m) (omega (arith, c .before .before .loop-test .taken)))
 
-goes-on : (c : tie.Else1 Inv-loop μ-loop) → LeafGoesOn (markedIn (now (c .before .before .before .before .before .before .args .ends))) (c .before .before .before .loop .p)
+goes-on : (c : tie.Else1 Inv-loop μ-loop) → LeafGoesOn (markedIn (now (c .before .before .before .before .before .before .args .borders))) (c .before .before .before .loop .p)
 unfolding markedIn
-goes-on c = leaf-goes-on (markedIn (now (c .before .before .before .before .before .before .args .ends))) (c .before .before .before .loop .p) (ne-eqb _ 1 (c .if1 .left))
+goes-on c = leaf-goes-on (markedIn (now (c .before .before .before .before .before .before .args .borders))) (c .before .before .before .loop .p) (ne-eqb _ 1 (c .if1 .left))
 
 loop-holds : tie.Need-loop-holds Inv-loop μ-loop
 unfolding lastOf card
@@ -50,7 +50,7 @@ loop-holds c = (
   refl,
   refl,
   refl,
-  sym (lengths-none (now (c .before .before .args .out)) (markedIn (now (c .before .before .args .ends)))),
+  sym (lengths-none (now (c .before .before .args .out)) (markedIn (now (c .before .before .args .borders)))),
 )
 
 add-p : tie.Need-add-p Inv-loop μ-loop
@@ -63,7 +63,7 @@ shared-slice-read-if1 : tie.Need-shared-slice-read-if1 Inv-loop μ-loop
 shared-slice-read-if1 c = search needs
 
 sub-put-number : tie.Need-sub-put-number Inv-loop μ-loop
-sub-put-number c = omega (arith, c .before .before .before .before .loop .inv .1, lastOf-small (c .before .before .before .before .loop .p) (markedIn (now (c .before .before .before .before .before .before .before .args .ends))))
+sub-put-number c = omega (arith, c .before .before .before .before .loop .inv .1, lastOf-small (c .before .before .before .before .loop .p) (markedIn (now (c .before .before .before .before .before .before .before .args .borders))))
 
 put-number-requires : tie.Need-put-number-requires Inv-loop μ-loop
 put-number-requires c κs = omega (arith, room (c .before), c .before .before .before .before .loop .inv .2)
@@ -77,7 +77,7 @@ loop-less c = search needs
 loop-again : tie.Need-loop-again Inv-loop μ-loop
 loop-again c =
     let a = c .before .before .before .before .before .before .before .before .before .before .args in
-    let X = markedIn (now (a .ends)) in
+    let X = markedIn (now (a .borders)) in
     let p = c .before .before .before .before .before .before .before .loop .p in
     let inv = c .before .before .before .before .before .before .before .loop .inv in
     let e = ending (c .before .before .before .before) in (
@@ -96,7 +96,7 @@ loop-less-2 c = search needs
 loop-again-2 : tie.Need-loop-again-2 Inv-loop μ-loop
 loop-again-2 c =
     let a = c .before .before .before .before .before .before .args in
-    let X = markedIn (now (a .ends)) in
+    let X = markedIn (now (a .borders)) in
     let p = c .before .before .before .loop .p in
     let inv = c .before .before .before .loop .inv in
     let e = goes-on c in (

@@ -15,15 +15,15 @@ use Rattle.reduction.proofs.write.write_regions.Statement.{statement}
 use Rattle.reduction.proofs.write.write_regions.Tie as tie
 
 abbrev Inv-loop : tie.InvT-loop
-Inv-loop m n from to bounds ends at out₀ passed₀ before₀ k₀ out passed before k =
+Inv-loop m n from to bounds borders at out₀ passed₀ before₀ k₀ out passed before k =
     (k ≤ n)
     × (length out ≡ length out₀)
-    × (out ≡ withNumbers out₀ at (regionNumbers k (markedIn ends) from to bounds))
-    × (before ≡ card passed (markedIn ends))
+    × (out ≡ withNumbers out₀ at (regionNumbers k (markedIn borders) from to bounds))
+    × (before ≡ card passed (markedIn borders))
     × (k < n → passed ≤ getD from k 0 - 1)
 
 abbrev μ-loop : tie.MeasureT-loop
-μ-loop m n from to bounds ends at out₀ passed₀ before₀ k₀ out passed before k = n - k
+μ-loop m n from to bounds borders at out₀ passed₀ before₀ k₀ out passed before k = n - k
 
 -- the k-th range lies on the line, and not before the peptide passed
 record KthRange (c : tie.In-loop Inv-loop μ-loop) : Type 0 where
@@ -49,21 +49,21 @@ on-line c =
     }
 
 -- the leaves before the k-th range
-low-count : (c : tie.After-ends-between Inv-loop μ-loop)
-    → c .before .before .before .loop .before + c .ends-between .result ≡ card (getD (now (c .before .before .before .before .before .before .before .before .before .args .from)) (c .before .before .before .loop .k) 0 - 1) (markedIn (now (c .before .before .before .before .before .before .before .before .before .args .ends)))
-low-count c = omega (arith, c .ends-between .ensures, c .before .before .before .loop .inv .3)
+low-count : (c : tie.After-borders-between Inv-loop μ-loop)
+    → c .before .before .before .loop .before + c .borders-between .result ≡ card (getD (now (c .before .before .before .before .before .before .before .before .before .args .from)) (c .before .before .before .loop .k) 0 - 1) (markedIn (now (c .before .before .before .before .before .before .before .before .before .args .borders)))
+low-count c = omega (arith, c .borders-between .ensures, c .before .before .before .loop .inv .3)
 
 -- and those up to its end
-high-count : (c : tie.After-ends-between2 Inv-loop μ-loop)
-    → c .before .before .before .before .before .loop .before + c .before .before .ends-between .result + c .ends-between2 .result ≡ card (getD (now (c .before .before .before .before .before .before .before .before .before .before .before .args .to)) (c .before .before .before .before .before .loop .k) 0) (markedIn (now (c .before .before .before .before .before .before .before .before .before .before .before .args .ends)))
-high-count c = omega (arith, c .ends-between2 .ensures, low-count (c .before .before))
+high-count : (c : tie.After-borders-between2 Inv-loop μ-loop)
+    → c .before .before .before .before .before .loop .before + c .before .before .borders-between .result + c .borders-between2 .result ≡ card (getD (now (c .before .before .before .before .before .before .before .before .before .before .before .args .to)) (c .before .before .before .before .before .loop .k) 0) (markedIn (now (c .before .before .before .before .before .before .before .before .before .before .before .args .borders)))
+high-count c = omega (arith, c .borders-between2 .ensures, low-count (c .before .before))
 
 loop-holds : tie.Need-loop-holds Inv-loop μ-loop
 unfolding card
 loop-holds c = (
   omega arith,
   refl,
-  sym (ap (withNumbers (now (c .before .before .before .before .before .args .out)) (c .before .before .before .before .before .args .at)) (region-numbers-none (markedIn (now (c .before .before .before .before .before .args .ends))) (now (c .before .before .before .before .before .args .from)) (now (c .before .before .before .before .before .args .to)) (now (c .before .before .before .before .before .args .bounds))) ∙ numbers-none _ _),
+  sym (ap (withNumbers (now (c .before .before .before .before .before .args .out)) (c .before .before .before .before .before .args .at)) (region-numbers-none (markedIn (now (c .before .before .before .before .before .args .borders))) (now (c .before .before .before .before .before .args .from)) (now (c .before .before .before .before .before .args .to)) (now (c .before .before .before .before .before .args .bounds))) ∙ numbers-none _ _),
   refl,
   λ h. omega arith,
 )
@@ -77,26 +77,26 @@ shared-slice-read-low c = search needs
 sub-low : tie.Need-sub-low Inv-loop μ-loop
 sub-low c = omega (arith, on-line (c .before))
 
-ends-between-requires : tie.Need-ends-between-requires Inv-loop μ-loop
-ends-between-requires c κs = let r = on-line (c .before) in (r .onward, (omega (arith, r, c .before .before .before .before .before .before .before .before .pre .1 .1 .0), c .before .before .before .before .before .before .before .before .pre .1 .1 .1 .0))
+borders-between-requires : tie.Need-borders-between-requires Inv-loop μ-loop
+borders-between-requires c κs = let r = on-line (c .before) in (r .onward, (omega (arith, r, c .before .before .before .before .before .before .before .before .pre .1 .1 .0), c .before .before .before .before .before .before .before .before .pre .1 .1 .1 .0))
 
 add-before : tie.Need-add-before Inv-loop μ-loop
-add-before c = omega (arith, on-line (c .before .before), low-count (c), card-most (getD (now (c .before .before .before .before .before .before .before .before .before .args .from)) (c .before .before .before .loop .k) 0 - 1) (markedIn (now (c .before .before .before .before .before .before .before .before .before .args .ends))))
+add-before c = omega (arith, on-line (c .before .before), low-count (c), card-most (getD (now (c .before .before .before .before .before .before .before .before .before .args .from)) (c .before .before .before .loop .k) 0 - 1) (markedIn (now (c .before .before .before .before .before .before .before .before .before .args .borders))))
 
 add-first : tie.Need-add-first Inv-loop μ-loop
-add-first c = omega (arith, on-line (c .before .before), low-count (c), card-most (getD (now (c .before .before .before .before .before .before .before .before .before .args .from)) (c .before .before .before .loop .k) 0 - 1) (markedIn (now (c .before .before .before .before .before .before .before .before .before .args .ends))))
+add-first c = omega (arith, on-line (c .before .before), low-count (c), card-most (getD (now (c .before .before .before .before .before .before .before .before .before .args .from)) (c .before .before .before .loop .k) 0 - 1) (markedIn (now (c .before .before .before .before .before .before .before .before .before .args .borders))))
 
-mul-ends-between : tie.Need-mul-ends-between Inv-loop μ-loop
-mul-ends-between c = search needs
+mul-borders-between : tie.Need-mul-borders-between Inv-loop μ-loop
+mul-borders-between c = search needs
 
-shared-slice-read-ends-between : tie.Need-shared-slice-read-ends-between Inv-loop μ-loop
-shared-slice-read-ends-between c = search needs
+shared-slice-read-borders-between : tie.Need-shared-slice-read-borders-between Inv-loop μ-loop
+shared-slice-read-borders-between c = search needs
 
-ends-between-requires-2 : tie.Need-ends-between-requires-2 Inv-loop μ-loop
-ends-between-requires-2 c κs = let r = on-line (c .before .before .before) in (omega (arith, r), (omega (arith, r, c .before .before .before .before .before .before .before .before .before .before .pre .1 .1 .0), c .before .before .before .before .before .before .before .before .before .before .pre .1 .1 .1 .0))
+borders-between-requires-2 : tie.Need-borders-between-requires-2 Inv-loop μ-loop
+borders-between-requires-2 c κs = let r = on-line (c .before .before .before) in (omega (arith, r), (omega (arith, r, c .before .before .before .before .before .before .before .before .before .before .pre .1 .1 .0), c .before .before .before .before .before .before .before .before .before .before .pre .1 .1 .1 .0))
 
 add-last : tie.Need-add-last Inv-loop μ-loop
-add-last c = omega (arith, on-line (c .before .before .before .before), high-count (c), card-most (getD (now (c .before .before .before .before .before .before .before .before .before .before .before .args .to)) (c .before .before .before .before .before .loop .k) 0) (markedIn (now (c .before .before .before .before .before .before .before .before .before .before .before .args .ends))))
+add-last c = omega (arith, on-line (c .before .before .before .before), high-count (c), card-most (getD (now (c .before .before .before .before .before .before .before .before .before .before .before .args .to)) (c .before .before .before .before .before .loop .k) 0) (markedIn (now (c .before .before .before .before .before .before .before .before .before .before .before .args .borders))))
 
 mul-t16 : tie.Need-mul-t16 Inv-loop μ-loop
 mul-t16 c = search needs
@@ -127,15 +127,15 @@ loop-again c =
     let a = c .before .before .before .before .before .before .before .before .before .before .before .before .before .before .before .before .before .args in
     let k = c .before .before .before .before .before .before .before .before .before .before .before .loop .k in
     let inv = c .before .before .before .before .before .before .before .before .before .before .before .loop .inv in
-    let before = c .before .before .before .before .before .before .before .before .before .before .before .loop .before + c .before .before .before .before .before .before .before .before .ends-between .result in
-    let X = markedIn (now (a .ends)) in
+    let before = c .before .before .before .before .before .before .before .before .before .before .before .loop .before + c .before .before .before .before .before .before .before .before .borders-between .result in
+    let X = markedIn (now (a .borders)) in
     let A = now (a .from) in
     let B = now (a .to) in
     let Z = now (a .bounds) in (
       omega (arith, on-line (c .before .before .before .before .before .before .before .before .before .before)),
       c .before .before .put-numbers .kept .0 ∙ inv .1,
       c .before .before .put-numbers .ensures
-          ∙ ap (λ (l : List ℕ). withNumbers l (a .at + 6 * k) ((before + 1) ∷ (before + c .before .before .before .before .before .before .ends-between2 .result) ∷ getD Z k 0 ∷ [])) (inv .2)
+          ∙ ap (λ (l : List ℕ). withNumbers l (a .at + 6 * k) ((before + 1) ∷ (before + c .before .before .before .before .before .before .borders-between2 .result) ∷ getD Z k 0 ∷ [])) (inv .2)
           ∙ ap₂ (λ (x y : ℕ). withNumbers (withNumbers (now (a .out)) (a .at) (regionNumbers k X A B Z)) (a .at + 6 * k) ((x + 1) ∷ y ∷ getD Z k 0 ∷ [])) (low-count (c .before .before .before .before .before .before .before .before)) (high-count (c .before .before .before .before .before .before))
           ∙ regions-more X A B Z (now (a .out)) (a .at) k,
       low-count (c .before .before .before .before .before .before .before .before),
@@ -160,12 +160,12 @@ write-regions-spec =
     mul-low
     shared-slice-read-low
     sub-low
-    ends-between-requires
+    borders-between-requires
     add-before
     add-first
-    mul-ends-between
-    shared-slice-read-ends-between
-    ends-between-requires-2
+    mul-borders-between
+    shared-slice-read-borders-between
+    borders-between-requires-2
     add-last
     mul-t16
     shared-slice-read-t19

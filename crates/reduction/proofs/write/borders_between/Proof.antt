@@ -9,25 +9,25 @@ use Rattle.bounds.proofs.Basics.Counting.{card-most}
 use Rattle.reduction.specs.Private.Writing.{markedIn}
 use Rattle.reduction.proofs.Writing.LeafEnds.{count-next}
 use borrow.Author.Needs.{needs}
-use Rattle.reduction.proofs.write.ends_between.Statement.{statement}
-use Rattle.reduction.proofs.write.ends_between.Tie as tie
+use Rattle.reduction.proofs.write.borders_between.Statement.{statement}
+use Rattle.reduction.proofs.write.borders_between.Tie as tie
 
 abbrev Inv-loop : tie.InvT-loop
-Inv-loop ends after upto end p₀ count₀ p count = (p ≤ end) × (count + card after (markedIn ends) ≡ card p (markedIn ends))
+Inv-loop borders after upto end p₀ count₀ p count = (p ≤ end) × (count + card after (markedIn borders) ≡ card p (markedIn borders))
 
 abbrev μ-loop : tie.MeasureT-loop
-μ-loop ends after upto end p₀ count₀ p count = end - p
+μ-loop borders after upto end p₀ count₀ p count = end - p
 
 -- with the next byte
 next : (c : tie.In-loop Inv-loop μ-loop)
-    → c .before .loop .count + getD (now (c .before .before .args .ends)) (c .before .loop .p + 1) 0 + card (c .before .before .args .after) (markedIn (now (c .before .before .args .ends)))
-    ≡ card (c .before .loop .p + 1) (markedIn (now (c .before .before .args .ends)))
-next c = omega (arith, c .before .loop .inv .1, count-next (now (c .before .before .args .ends)) (c .before .before .pre .1 .1) (c .before .loop .p))
+    → c .before .loop .count + getD (now (c .before .before .args .borders)) (c .before .loop .p + 1) 0 + card (c .before .before .args .after) (markedIn (now (c .before .before .args .borders)))
+    ≡ card (c .before .loop .p + 1) (markedIn (now (c .before .before .args .borders)))
+next c = omega (arith, c .before .loop .inv .1, count-next (now (c .before .before .args .borders)) (c .before .before .pre .1 .1) (c .before .loop .p))
 
 -- no more than there are peptides
 fits : (c : tie.In-loop Inv-loop μ-loop)
-    → c .before .loop .count + getD (now (c .before .before .args .ends)) (c .before .loop .p + 1) 0 ≤ c .before .loop .p + 1
-fits c = omega (arith, next c, card-most (c .before .loop .p + 1) (markedIn (now (c .before .before .args .ends))))
+    → c .before .loop .count + getD (now (c .before .before .args .borders)) (c .before .loop .p + 1) 0 ≤ c .before .loop .p + 1
+fits c = omega (arith, next c, card-most (c .before .loop .p + 1) (markedIn (now (c .before .before .args .borders))))
 
 loop-holds : tie.Need-loop-holds Inv-loop μ-loop
 loop-holds c = search needs
@@ -58,8 +58,8 @@ returns c =
     let e : c .before .loop .p ≡ c .before .before .args .upto = omega arith in
     rw (← e) (c .before .loop .inv .1)
 
-pub ends-between-spec : {M : Type 1} → statement M
-ends-between-spec =
+pub borders-between-spec : {M : Type 1} → statement M
+borders-between-spec =
     tie.close
     (tie.spec
     Inv-loop
