@@ -84,7 +84,7 @@ extern "C" {
  */
 #define PHF_VERSION_MAJOR 0
 #define PHF_VERSION_MINOR 12
-#define PHF_VERSION_PATCH 0
+#define PHF_VERSION_PATCH 1
 
 /* The largest sizes: peptides, leaves, regions, and bytes of a family file. */
 #define PHF_MOST_PEPTIDES 4096
