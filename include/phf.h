@@ -18,8 +18,9 @@
  * No function keeps anything from one call to the next, allocates, or fails otherwise than by the number it returns.
  * All may be called from several threads at once.
  *
- * STACK. Working arrays lie on the stack. With what it calls, each function needs at most (KB are 1,024 bytes; measured on the
- * largest and deepest families with this library, not proved; a test makes every call on just that much):
+ * STACK. Working arrays lie on the stack. With what it calls, each function needs at most (KB are 1,024 bytes; it is what the
+ * largest and deepest families use of this library and 1 KB more, up to the next 4 KB; measured, not proved; a test makes every
+ * call on just that much):
  *     phf_check, phf_regions                                        28 KB
  *     phf_bound                                                     32 KB
  *     phf_curve                                                     44 KB

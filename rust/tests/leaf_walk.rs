@@ -1,18 +1,20 @@
-//! The walk along the leaf lengths, at the edges of its blocks of 64 and 16 leaves. Every leaf is a region of its own, so that a
-//! peptide in a wrong leaf is marked wrongly sooner or later; the curve is held against the plain implementation.
+//! The walk along the leaf lengths, at the edges of its blocks of 64 and 16 leaves. Every leaf is a region of its own, and neighbours
+//! can take another part of their peptides each, so that a peptide taken for one of the next leaf is marked wrongly sooner or later;
+//! the curve is held against the plain implementation.
 
 use phf_tests::compare;
 use phf_tests::families::{all_but_one_empty, family};
 use phf_tests::random::Random;
 use phf_tests::reference::file_of;
 
-/// The curve of leaves with these lengths, each of them a region with half of its peptides for z, along several paths.
+/// The curve of leaves with these lengths, each of them a region with half of its peptides for z, and every other with one more,
+/// along several paths.
 fn curves(random: &mut Random, lengths: &[u16]) {
     let leaf = |j: usize| j as u16 + 1;
     let regions: Vec<(u16, u16, u16)> = lengths
         .iter()
         .enumerate()
-        .map(|(j, length)| (leaf(j), leaf(j), length / 2))
+        .map(|(j, length)| (leaf(j), leaf(j), length / 2 + j as u16 % 2))
         .collect();
     let file = file_of(&family(lengths, &regions));
     let m = lengths.iter().sum::<u16>();
@@ -24,7 +26,7 @@ fn curves(random: &mut Random, lengths: &[u16]) {
     }
 }
 
-/// So many leaves as there are peptides or more, at random, so that some are empty and some have several.
+/// So many peptides in so many leaves at random: some leaves are empty, and some have several.
 fn scattered(random: &mut Random, n: usize, m: usize) -> Vec<u16> {
     let mut lengths = vec![0; n];
     for _ in 0..m {

@@ -5,6 +5,7 @@ use phf_tests::families::{
     all_but_one_empty, binary_tree, binary_tree_on, chain, deepest_tree, eight_peptides, towers,
     Bounds,
 };
+use phf_tests::phf;
 use phf_tests::random::Random;
 use phf_tests::reference::{file_of, Family, Region};
 use phf_tests::stack::{every_call, Stack};
@@ -49,31 +50,77 @@ fn every_call_on_the_stack_that_the_header_states() {
     }
 }
 
-/// Declined calls need no more: here by the last cause of each.
+/// Makes one call on the stack that the header states for it.
+fn on_its_stack(name: &str, mut call: impl FnMut() -> u16) -> u16 {
+    let (file, path) = (file_of(&eight_peptides()), [1]);
+    let calls = every_call(&file, &path);
+    let stated = calls.iter().find(|call| call.name == name).unwrap().stated;
+    Stack::new(stated).run(&mut call)
+}
+
+/// Declined calls need no more, here by the causes that are found last: 10 and, of a comparison, 110; 13; 14, 15 and 16.
 #[test]
 fn declined_calls_on_the_same_stack() {
-    let crossing = {
-        let mut family = deepest_tree(&mut Random::new(11), Bounds::Mixed);
-        family.regions.last_mut().unwrap().z = 0;
-        let mut file = file_of(&family);
-        file.push(0);
-        file
-    };
-    for mut call in every_call(&crossing, &[0]) {
-        let number = Stack::new(call.stated).run(&mut call.make);
-        let chooses = call.name.starts_with("phf_choose");
-        assert_eq!(number == 0, chooses, "{}", call.name);
+    let good = file_of(&deepest_tree(&mut Random::new(11), Bounds::Mixed));
+    let deep = file_of(&chain(4096, 65, 1));
+    let mut repeats = Random::new(12).order(4096);
+    repeats[4095] = repeats[0];
+    let path = Random::new(13).order(4096);
+    let (mut values, mut marks) = (vec![0; 4097], vec![0; 4096]);
+    let (mut taken, mut out) = (vec![0; 8191], vec![0; 57354]);
+    let mut selection = vec![1; 4096];
+    selection[4095] = 2;
+    let number = on_its_stack("phf_check", || phf::check(&deep).number);
+    assert_eq!(number, 10);
+    let length = on_its_stack("phf_regions", || phf::regions(&deep).length as u16);
+    assert_eq!(length, 0);
+    let number = on_its_stack("phf_bound", || {
+        phf::bound(&good, &selection, &mut taken).number
+    });
+    assert_eq!(number, 14);
+    selection[4095] = 1;
+    let number = on_its_stack("phf_bound", || {
+        phf::bound(&good, &selection, &mut taken[1..]).number
+    });
+    assert_eq!(number, 16);
+    for (path, room, expected) in [(&repeats, 4096, 13), (&path, 4095, 16)] {
+        let number = on_its_stack("phf_curve", || {
+            phf::curve(&good, path, &mut values, &mut marks[..room]).number
+        });
+        assert_eq!(number, expected);
+    }
+    for (path, b, expected) in [(&repeats, 1, 13), (&path, 0, 15)] {
+        let number = on_its_stack("phf_cut", || phf::cut(&good, path, 0, b).number);
+        assert_eq!(number, expected);
+    }
+    for (file, room, expected) in [(&deep, 57354, 10), (&good, good.len() - 1, 16)] {
+        let number = on_its_stack("phf_reduce", || phf::reduce(file, &mut out[..room]).number);
+        assert_eq!(number, expected);
+    }
+    for (first, second, expected) in [(&deep, &good, 10), (&good, &deep, 110)] {
+        let number = on_its_stack("phf_same", || phf::same(first, second).number);
+        assert_eq!(number, expected);
     }
 }
 
-/// The sizes stand in the header, one line for each kind of call.
+/// The sizes stand in the header, one line for each kind of call, by the rule that it gives: what the call has used here and 1 KB,
+/// up to the next 4 KB.
 #[test]
-fn the_header_states_these_sizes() {
+fn the_header_states_what_the_calls_use() {
     let header = include_str!("../../include/phf.h");
     let (_, table) = header.split_once(" * STACK.").unwrap();
     let (table, _) = table.split_once("\n *\n").unwrap();
+    let mut most = [0; 10];
+    for family in families() {
+        let path = Random::new(10).order(family.peptides as usize);
+        let file = file_of(&family);
+        for (k, mut call) in every_call(&file, &path).into_iter().enumerate() {
+            most[k] = most[k].max(Stack::new(1 << 20).used(&mut call.make));
+        }
+    }
     let (file, path) = (file_of(&eight_peptides()), [1]);
-    for call in every_call(&file, &path) {
+    for (k, call) in every_call(&file, &path).iter().enumerate() {
+        assert_eq!(call.stated, (most[k] + 1024).next_multiple_of(4096));
         let line = table.lines().find(|line| line.contains(call.name));
         let stated = format!(" {} KB", call.stated / 1024);
         assert!(line.unwrap().ends_with(&stated), "{}", call.name);

@@ -59,6 +59,10 @@ module _ (F : Family) where
   unfolding peptidesUpTo
   upTo-mono i j h = sum-take i j (F .lengths) h
 
+  -- one leaf more
+  pub upTo-leaf : (j : ℕ) → peptidesUpTo F (j + 1) ≡ peptidesUpTo F j + leafLength F (j + 1)
+  upTo-leaf j = rw (add-one, length-leaf F j) (rw add-one at (up-to-next j))
+
   pub nothing-before : peptidesUpTo F 0 ≡ 0
   unfolding peptidesUpTo sum
   nothing-before = refl

@@ -9,8 +9,8 @@ use crate::leaf_walk::pass_blocks;
 ghost use mathlib.Core.Path.{_≡_};
 ghost use Prim.Native.Nat.{_+_, _<_, _≤_};
 ghost use lib.ListN.{length};
-ghost use Rattle.reader.specs.Family.{familyOf, leaves, regionCount, leafLength, leafOf, noRegion, region, totalLength};
-ghost use Rattle.reader.specs.Calls.{held};
+ghost use Rattle.reader.specs.Family.{familyOf, leaves, regionCount, leafLength, noRegion, region, totalLength};
+ghost use Rattle.reader.specs.Calls.{LeafAnswers, held};
 
 // The number of a leaf, 1 to N.
 pub struct Leaf(pub u16);
@@ -60,9 +60,10 @@ pub fn leaf_length(file: &[u8], leaf: Leaf) -> u16
     number_at(file, 14 + 2 * (j as usize))
 }
 
-// The leaf of a peptide, found by walking the leaf lengths; leaf 0 where they end before it.
+// The leaf of a peptide, found by walking the leaf lengths; leaf 0 where they end before it. Fewer leaves than the smallest block
+// has are counted at once.
 pub fn leaf_of(file: &[u8], peptide: Peptide) -> Leaf
-    ensures { λ r. ⌜ r .0 ≡ leafOf (familyOf (now (file .entry))) (peptide .0) ⌝ }
+    ensures { λ r. ⌜ LeafAnswers (now (file .entry)) (peptide .0) (r .0) ⌝ }
 {
     let leaves = leaf_count(file);
     let start = Passed {

@@ -357,7 +357,7 @@ fn walk_table() {
     let largest = binary_tree(random, 4096, 1, Bounds::Mixed);
     rows.push(("random", largest.clone(), random.order(4096)));
     rows.push(("1 2 3 ..", largest, up.clone()));
-    // a leaf too long for its block to be added up in 16 bits with any other stands first
+    // every walk but those to the first leaf passes a long one
     let mut uneven = vec![1; 2048];
     uneven[0] = 2049;
     rows.push(("random", family(&uneven, &[]), random.order(4096)));

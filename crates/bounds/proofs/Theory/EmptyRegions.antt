@@ -14,7 +14,7 @@ use Rattle.bounds.proofs.Basics.Counting.{none, count-none}
 use Rattle.bounds.proofs.Theory.Laminar.{Laminar, member-hosts}
 use Rattle.bounds.proofs.Theory.Formula.{at-least}
 use Rattle.bounds.proofs.Theory.Taken.{taken-facts}
-use Rattle.bounds.proofs.Theory.Family.{upTo-leaf}
+use Rattle.reader.proofs.Walk.{upTo-leaf}
 
 -- n empty leaves after leaf j add no peptide
 empty-leaves-add : (F : Family) (n j : ℕ) → ((i : ℕ) → j < i → i ≤ j + n → leafLength F i ≡ 0) → peptidesUpTo F (j + n) ≡ peptidesUpTo F j

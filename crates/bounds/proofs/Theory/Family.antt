@@ -1,22 +1,20 @@
 -- The ranges of a family are laminar.
-use Prim.Native.Nat.{ℕ, zero, suc, _+_, _-_, _≤_, _<_}
+use Prim.Native.Nat.{ℕ, _+_, _-_, _≤_, _<_}
 use mathlib.Core.List.{List, [], _∷_, map}
 use mathlib.Core.Logic.{⊎-elim}
 use mathlib.Core.Path.{_≡_, refl, ap, _∙_}
 use native.Mathlib.Nat.{eq-or-lt-of-le}
-use native.Mathlib.Numerals.{add-one}
 use native.Mathlib.Omega.{arith}
-use lib.ListN.{length, getD, take, length-map, List·getD-map}
+use lib.ListN.{length, getD, length-map, List·getD-map}
 use lib.Seq.{take-length}
 use Rattle.reader.specs.Lists.{tabulate, sum}
 use Rattle.reader.specs.Bytes.{IsBytes}
 use Rattle.reader.specs.Causes.{Accepted}
 use Rattle.reader.specs.WellFormed.{WellFormed}
 use Rattle.reader.proofs.Lists.{sum-take, tabulate-same}
-use Rattle.reader.proofs.Parsed.{length-leaf}
-use Rattle.reader.proofs.Walk.{up-to-next, upTo-mono}
+use Rattle.reader.proofs.Walk.{upTo-mono}
 use Rattle.reader.proofs.Accepting.{well-formed}
-use Rattle.reader.specs.Family.{Region, Family, leaves, regionCount, noRegion, region, leafLength, peptidesUpTo, familyOf}
+use Rattle.reader.specs.Family.{Region, Family, leaves, regionCount, noRegion, region, peptidesUpTo, familyOf}
 use Rattle.bounds.specs.Ranges.{Range, rangeOf, rangesOf, In, rangeAt}
 use Rattle.bounds.proofs.Basics.Members.{in-at, place}
 use Rattle.bounds.proofs.Theory.Laminar.{Fit, isAround, isBefore, Proper, Laminar, laminar-at}
@@ -24,10 +22,6 @@ use Rattle.bounds.proofs.Theory.Laminar.{Fit, isAround, isBefore, Prope
 pub upTo-most : (F : Family) (i : ℕ) → i ≤ leaves F → peptidesUpTo F i ≤ sum (F .lengths)
 unfolding peptidesUpTo
 upTo-most F i h = rw take-length at (sum-take i (leaves F) (F .lengths) h)
-
--- one leaf more
-pub upTo-leaf : (F : Family) (j : ℕ) → peptidesUpTo F (j + 1) ≡ peptidesUpTo F j + leafLength F (j + 1)
-upTo-leaf F j = rw (add-one, length-leaf F j) (rw add-one at (up-to-next F j))
 
 -- How the ranges of two regions lie, by their leaf numbers.
 

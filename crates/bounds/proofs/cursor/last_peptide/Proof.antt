@@ -4,8 +4,7 @@ use native.Mathlib.Omega.{arith}
 use mathlib.Core.Path.{_≡_}
 use denote.Ref.{now}
 use Rattle.reader.specs.Family.{familyOf, peptidesUpTo}
-use Rattle.reader.proofs.Walk.{upTo-mono}
-use Rattle.bounds.proofs.Theory.Family.{upTo-leaf}
+use Rattle.reader.proofs.Walk.{upTo-mono, upTo-leaf}
 use borrow.Author.Needs.{needs}
 use Rattle.bounds.proofs.cursor.last_peptide.Statement.{statement}
 use Rattle.bounds.proofs.cursor.last_peptide.Tie as tie

@@ -2,7 +2,6 @@
 use native.Mathlib.Omega.{arith}
 use mathlib.Core.Path.{refl}
 use borrow.Author.Tests.{lt-ltb, le-ltb}
-use borrow.Author.Needs.{needs}
 use Rattle.reader.proofs.leaf_walk.one_if_less.Statement.{statement}
 use Rattle.reader.proofs.leaf_walk.one_if_less.Tie as tie
 

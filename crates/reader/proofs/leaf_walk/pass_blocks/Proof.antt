@@ -1,11 +1,11 @@
 -- The loop walks a block at a time: what is left of the peptide's number is to be found from leaf j on.
-use Prim.Native.Nat.{ℕ, _≤_, _<_, _-_, _+_, _*_}
+use Prim.Native.Nat.{_≤_, _<_, _-_, _*_}
 use native.Mathlib.Omega.{arith}
-use mathlib.Core.Path.{_≡_, refl, ap, _∙_}
+use mathlib.Core.Path.{_≡_, _∙_}
 use lib.ListN.{drop}
 use denote.Ref.{now}
 use Rattle.reader.specs.Family.{familyOf, leaves, leafAfter}
-use Rattle.reader.specs.Private.Walking.{LengthsWithin, added}
+use Rattle.reader.specs.Private.Walking.{LengthsWithin}
 use Rattle.reader.proofs.Parsed.{leaves-read}
 use Rattle.reader.proofs.Walk.{walk-passes, added-more}
 use borrow.Author.Needs.{needs}

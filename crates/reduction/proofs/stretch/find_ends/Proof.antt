@@ -7,7 +7,8 @@ use denote.Ref.{now}
 use Rattle.reader.specs.Family.{familyOf, leaves, peptidesUpTo}
 use Rattle.reader.proofs.Walk.{nothing-before}
 use Rattle.reduction.specs.Private.Passes.{Begun, Open}
-use Rattle.bounds.proofs.Theory.Family.{upTo-leaf, leaf-most}
+use Rattle.reader.proofs.Walk.{upTo-leaf}
+use Rattle.bounds.proofs.Theory.Family.{leaf-most}
 use Rattle.reduction.proofs.Stretching.OpenRegions.{none-begun, none-open, regions-begin, ends-found}
 use borrow.Author.Needs.{needs}
 use Rattle.reduction.proofs.stretch.find_ends.Statement.{statement}
