@@ -17,18 +17,18 @@ pub record LeafLaws : Type 0 where
   -- Of every peptide there is such a call. Of the leaf that it answers:
   pub every : (f : AcceptedFile) (p : ℕ) → 1 ≤ p → p ≤ familyOf (f .file) .peptides → (c : LeafCall f) × (c .peptide ≡ p)
   -- It is one of the N.
-  pub a-leaf : (f : AcceptedFile) (c : LeafCall f) → (1 ≤ c .leaf) × (c .leaf ≤ leaves ((familyOf (f .file))))
+  pub a-leaf : (f : AcceptedFile) (c : LeafCall f) → (1 ≤ c .leaf) × (c .leaf ≤ leaves (familyOf (f .file)))
   -- The lengths up to it add to at least the peptide's number,
-  pub reaches : (f : AcceptedFile) (c : LeafCall f) → c .peptide ≤ peptidesUpTo ((familyOf (f .file))) (c .leaf)
+  pub reaches : (f : AcceptedFile) (c : LeafCall f) → c .peptide ≤ peptidesUpTo (familyOf (f .file)) (c .leaf)
   -- and those up to the leaf before it to less, as do those up to any leaf before it: it is the first.
-  pub less-before : (f : AcceptedFile) (c : LeafCall f) → peptidesUpTo ((familyOf (f .file))) (c .leaf - 1) < c .peptide
-  pub first : (f : AcceptedFile) (c : LeafCall f) (j : ℕ) → j < c .leaf → peptidesUpTo ((familyOf (f .file))) j < c .peptide
+  pub less-before : (f : AcceptedFile) (c : LeafCall f) → peptidesUpTo (familyOf (f .file)) (c .leaf - 1) < c .peptide
+  pub first : (f : AcceptedFile) (c : LeafCall f) (j : ℕ) → j < c .leaf → peptidesUpTo (familyOf (f .file)) j < c .peptide
   -- It has a peptide,
-  pub not-empty : (f : AcceptedFile) (c : LeafCall f) → 1 ≤ leafLength ((familyOf (f .file))) (c .leaf)
+  pub not-empty : (f : AcceptedFile) (c : LeafCall f) → 1 ≤ leafLength (familyOf (f .file)) (c .leaf)
   -- this one is its own,
-  pub own : (f : AcceptedFile) (c : LeafCall f) → OfLeaf ((familyOf (f .file))) (c .leaf) (c .peptide)
+  pub own : (f : AcceptedFile) (c : LeafCall f) → OfLeaf (familyOf (f .file)) (c .leaf) (c .peptide)
   -- and no other leaf's.
-  pub only : (f : AcceptedFile) (c : LeafCall f) (j : ℕ) → 1 ≤ j → OfLeaf ((familyOf (f .file))) j (c .peptide) → j ≡ c .leaf
+  pub only : (f : AcceptedFile) (c : LeafCall f) (j : ℕ) → 1 ≤ j → OfLeaf (familyOf (f .file)) j (c .peptide) → j ≡ c .leaf
 
 -- the peptides up to a leaf are those up to the leaf before, and its own
 last-leaf : (F : Family) (j : ℕ) → 1 ≤ j → peptidesUpTo F j ≡ peptidesUpTo F (j - 1) + leafLength F j
@@ -66,7 +66,7 @@ module _ (f : AcceptedFile) (c : LeafCall f) where
 pub leaf-laws : LeafLaws
 leaf-laws =
     record {
-      every = λ f p some most. (record { peptide = p; some = some; most = most; leaf = leafOf ((familyOf (f .file))) p; promised = refl }, refl);
+      every = λ f p some most. (record { peptide = p; some = some; most = most; leaf = leafOf (familyOf (f .file)) p; promised = refl }, refl);
       a-leaf = λ f c. (found f c .some, found f c .leaf);
       reaches = λ f c. found f c .reaches;
       less-before = λ f c. is-own f c .after;
