@@ -3,6 +3,7 @@ pub mod Ranges
 pub mod Bound
 pub mod Selections
 pub mod Curves
+pub mod Holding
 pub mod Calls
 pub mod AcceptedCalls
 pub mod Paths

@@ -13,7 +13,8 @@ ghost use lib.ListN.{length, getD, drop};
 ghost use Rattle.reader.specs.Family.{Family, familyOf, leaves, leafOf, regionCount, region};
 ghost use Rattle.reader.specs.WellFormed.{Ordered, Nested};
 ghost use Rattle.bounds.specs.Curves.{curveMarks};
-ghost use Rattle.bounds.specs.Private.Walks.{Walkable, Painted, InnermostAtLeaves, LastHolding, crowded, Uncrowded, OneLess, MarkedNext};
+ghost use Rattle.bounds.specs.Holding.{LastHolding};
+ghost use Rattle.bounds.specs.Private.Walks.{Walkable, Painted, InnermostAtLeaves, crowded, Uncrowded, OneLess, MarkedNext};
 
 // Writes a region's number at each of its leaves.
 fn paint(innermost: &mut [u16], first: Leaf, last: Leaf, number: u16)

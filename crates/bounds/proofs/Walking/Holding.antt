@@ -13,7 +13,8 @@ use borrow.Author.Tests.{leb-true, le-leb, lt-leb, eqb-true, eq-eqb}
 use Rattle.reader.specs.Family.{Family, regionCount, region, leafOf}
 use Rattle.reader.specs.WellFormed.{Ordered, NestedBelow, IsParent}
 use Rattle.reader.proofs.Below.{some-at, none-at, none-below}
-use Rattle.bounds.specs.Private.Walks.{isBetween, holdsLeaf, LastAmong, LastHolding, Painted, crowded, OneLess, MarkedNext}
+use Rattle.bounds.specs.Holding.{isBetween, holdsLeaf, LastAmong, LastHolding}
+use Rattle.bounds.specs.Private.Walks.{Painted, crowded, OneLess, MarkedNext}
 use Rattle.bounds.proofs.Basics.Members.{test, clash, refuted, and-l, and-r, and-both, le-or-lt, bit}
 
 -- Numbers up to and from a number.
@@ -178,43 +179,46 @@ module _ (F : Family) (S : List ℕ) (leaf : ℕ) where
         here : crowdedAt F S leaf (c - 1) ≡ false
         here = refuted (crowdedAt F S leaf (c - 1)) (λ t. h (eqb-true (getD S (c - 1) 0) 0 (and-r (holdsLeaf F leaf (c - 1)) (eqb (getD S (c - 1) 0) 0) t)))
 
--- One mark less in every region on the chain.
+-- A list with a place for each region, changed in every region on the chain.
 
--- D is S with one less in the regions from c on that hold the leaf
-pub record LessFrom (F : Family) (S : List ℕ) (leaf : ℕ) (D : List ℕ) (c : ℕ) : Type 0 where
+-- D is S with the new numbers in the regions from c on that hold the leaf
+pub record ChangedFrom (F : Family) (new : ℕ → ℕ) (S : List ℕ) (leaf : ℕ) (D : List ℕ) (c : ℕ) : Type 0 where
   pub same : length D ≡ length S
   pub before : (i : ℕ) → i < c → getD D i 0 ≡ getD S i 0
-  pub less : (i : ℕ) → c ≤ i → i < regionCount F → getD D i 0 ≡ getD S i 0 - bit (holdsLeaf F leaf i)
+  pub changed : (i : ℕ) → c ≤ i → i < regionCount F → getD D i 0 ≡ cond (holdsLeaf F leaf i) (new i) (getD S i 0)
 
-pub less-starts : (F : Family) (S : List ℕ) (leaf c : ℕ) → LastHolding F leaf c → LessFrom F S leaf S c
-less-starts F S leaf c h =
-    record { same = refl; before = λ i l. refl; less = λ i l u. rw (h .last i l u) (omega arith) }
+pub change-starts : (F : Family) (new : ℕ → ℕ) (S : List ℕ) (leaf c : ℕ) → LastHolding F leaf c → ChangedFrom F new S leaf S c
+change-starts F new S leaf c h = record { same = refl; before = λ i l. refl; changed = λ i l u. rw (h .last i l u) }
 
-pub less-ends : (F : Family) (S : List ℕ) (leaf : ℕ) (D : List ℕ) (c : ℕ) → LessFrom F S leaf D c → c ≡ 0 → OneLess F S leaf D
-less-ends F S leaf D c h e = record { same = h .same; less = λ i l. h .less i (omega arith) l }
-
-module _ (F : Family) (o : Ordered F) (nested : NestedBelow F (regionCount F)) (leaf c : ℕ) (chain : Chain F leaf c) (some : c ≡ 0 → ⊥) (S D : List ℕ) (room : c ≤ length S) where
-  pub less-steps : (p : ℕ) → IsParent F (c - 1) p → LessFrom F S leaf D c → LessFrom F S leaf (set D (c - 1) (getD D (c - 1) 0 - 1)) p
-  less-steps p par h =
+module _ (F : Family) (o : Ordered F) (nested : NestedBelow F (regionCount F)) (leaf c : ℕ) (chain : Chain F leaf c) (some : c ≡ 0 → ⊥) (new : ℕ → ℕ) (S D : List ℕ) (room : c ≤ length S) where
+  pub change-steps : (p v : ℕ) → IsParent F (c - 1) p → v ≡ new (c - 1) → ChangedFrom F new S leaf D c → ChangedFrom F new S leaf (set D (c - 1) v) p
+  change-steps p v par is h =
       let j : ℕ = c - 1 in
-      let v : ℕ = getD D j 0 - 1 in
       record {
         same = simp length-set (h .same);
         before = λ i l. getD-set-other D j i v 0 (λ e. omega (arith, par .earlier)) ∙ h .before i (omega (arith, par .earlier));
-        less =
+        changed =
             λ i l u.
             ⊎-elim
             (λ d.
             getD-set-other D j i v 0 (λ e. omega arith)
             ∙ h .before i (omega arith)
-            ∙ rw (chain-passes F o nested leaf c chain some p par i l d) (omega arith))
+            ∙ rw (chain-passes F o nested leaf c chain some p par i l d))
             (λ d.
             ⊎-elim
-            (λ e. rw (e, getD-set-same D j v 0 (omega (arith, h .same)), h .before j (omega arith), chain-here F o nested leaf c chain some))
-            (λ a. getD-set-other D j i v 0 (λ e. omega arith) ∙ h .less i a u)
+            (λ e. rw (e, getD-set-same D j v 0 (omega (arith, h .same)), is, chain-here F o nested leaf c chain some))
+            (λ a. getD-set-other D j i v 0 (λ e. omega arith) ∙ h .changed i a u)
             d)
             (at-or-beside i c some);
       }
+
+-- one mark less in each of them
+abbrev pub oneLess : List ℕ → ℕ → ℕ
+oneLess S i = getD S i 0 - 1
+
+pub less-ends : (F : Family) (S : List ℕ) (leaf : ℕ) (D : List ℕ) (c : ℕ) → ChangedFrom F (oneLess S) S leaf D c → c ≡ 0 → OneLess F S leaf D
+less-ends F S leaf D c h e =
+    record { same = h .same; less = λ i l. h .changed i (omega arith) l ∙ ⊎-elim (λ t. rw t) (λ f. rw f (omega arith)) (test (holdsLeaf F leaf i)) }
 
 -- A whole step.
 

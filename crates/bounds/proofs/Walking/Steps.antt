@@ -18,7 +18,8 @@ use Rattle.reader.proofs.Lists.{length-tabulate, getD-tabulate}
 use Rattle.reader.proofs.Walk.{FirstReaching, leaf-found, upTo-mono}
 use Rattle.bounds.specs.Ranges.{Peptides, rangeOf, rangeAt, rangesOf, has, count}
 use Rattle.bounds.specs.Curves.{entry, markAt, curveMarks, largestUpTo}
-use Rattle.bounds.specs.Private.Walks.{holdsLeaf, crowded, MarkedNext, marksUpTo, MarksOf, Distinct}
+use Rattle.bounds.specs.Holding.{holdsLeaf}
+use Rattle.bounds.specs.Private.Walks.{crowded, MarkedNext, marksUpTo, MarksOf, Distinct}
 use Rattle.bounds.proofs.Basics.Members.{test, both-ways, and-l, and-r, and-both, bit, le-or-lt, bit-few}
 use Rattle.bounds.proofs.Basics.Counting.{none, adding, count-none, count-adding, count-adding-other}
 use Rattle.bounds.proofs.Basics.Nesting.{has-facts, has-holds}

@@ -12,6 +12,7 @@ use Rattle.reader.specs.Calls.{Report}
 use Rattle.reader.specs.WellFormed.{WellFormed, Nested}
 use Rattle.bounds.specs.Curves.{cause11, cause12}
 use Rattle.bounds.specs.Calls.{inputCauses, pathRefusal}
+use Rattle.bounds.specs.Holding.{isBetween, holdsLeaf, LastHolding}
 use Rattle.bounds.specs.declared.path.Admitted.{Admitted}
 use Rattle.bounds.specs.declared.path.Admitted.the-variants.{Yes, Refused, Repeated}
 
@@ -46,22 +47,6 @@ Admission file path P (Refused n) = InputRefused file path (record { number = n;
 Admission file path P (Repeated p) = InputRefused file path (record { number = 13; values = p ∷ [] })
 
 -- The regions that hold a leaf.
-
--- a number is one of those from the first to the last
-unfoldable pub isBetween : ℕ → ℕ → ℕ → Bool
-isBetween first last n = leb first n && leb n last
-
-abbrev pub holdsLeaf : Family → ℕ → ℕ → Bool
-holdsLeaf F leaf k = isBetween (region F k .first) (region F k .last) leaf
-
--- c is the number, counted from 1, of the last of the first n regions that holds the leaf, or 0 where none does
-pub record LastAmong (F : Family) (n leaf c : ℕ) : Type 0 where
-  pub most : c ≤ n
-  pub holds : (j : ℕ) → c ≡ suc j → holdsLeaf F leaf j ≡ true
-  pub last : (i : ℕ) → c ≤ i → i < n → holdsLeaf F leaf i ≡ false
-
-abbrev pub LastHolding : Family → ℕ → ℕ → Type 0
-LastHolding F leaf c = LastAmong F (regionCount F) leaf c
 
 -- The list has at each leaf the number of the last region that holds it, which is the innermost one.
 abbrev pub InnermostAtLeaves : Family → List ℕ → Type 0

@@ -7,7 +7,7 @@ use lib.ListN.{length, getD}
 use denote.Ref.{now}
 use Rattle.reader.specs.Family.{familyOf, leaves, region, regionCount}
 use Rattle.reader.proofs.Parsed.{held-first, held-last}
-use Rattle.bounds.specs.Private.Walks.{isBetween, LastAmong}
+use Rattle.bounds.specs.Holding.{isBetween, LastAmong}
 use Rattle.bounds.proofs.Walking.Holding.{none-among, one-among}
 use borrow.Author.Needs.{needs}
 use Rattle.bounds.proofs.walk.fill_innermost.Statement.{statement}

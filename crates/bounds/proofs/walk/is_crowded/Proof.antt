@@ -6,7 +6,7 @@ use lib.ListN.{getD}
 use denote.Ref.{now}
 use Rattle.reader.specs.Family.{Family}
 use Rattle.reader.specs.WellFormed.{Nested}
-use Rattle.bounds.specs.Private.Walks.{LastHolding}
+use Rattle.bounds.specs.Holding.{LastHolding}
 use Rattle.bounds.proofs.Walking.Holding.{Chain, chain-starts, chain-next, RoomFrom, room-starts, room-steps, room-ends, is-crowded}
 use borrow.Author.Needs.{needs}
 use Rattle.bounds.proofs.walk.is_crowded.Statement.{statement}

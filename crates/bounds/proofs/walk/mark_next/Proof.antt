@@ -5,7 +5,7 @@ use mathlib.Core.Path.{_≡_, sym, subst, _∙_}
 use lib.ListN.{getD}
 use denote.Ref.{now}
 use Rattle.reader.specs.Family.{familyOf, leafOf}
-use Rattle.bounds.specs.Private.Walks.{LastHolding}
+use Rattle.bounds.specs.Holding.{LastHolding}
 use Rattle.bounds.proofs.Walking.Holding.{step-stays, step-takes}
 use borrow.Author.Needs.{needs}
 use Rattle.bounds.proofs.walk.mark_next.Statement.{statement}

@@ -1,14 +1,14 @@
 -- What lies below the number is as it was; whatever the leaf, the rest of the chain holds it.
 use Prim.Native.Nat.{ℕ, _-_, _≤_, _<_}
 use native.Mathlib.Omega.{arith}
-use mathlib.Core.Path.{_≡_, refl, _∙_}
+use mathlib.Core.Path.{_≡_, refl, ap, _∙_}
 use lib.ListN.{length, getD, length-set}
 use lib.Seq.{getD-set-other}
 use denote.Ref.{now}
 use Rattle.reader.specs.Family.{Family}
 use Rattle.reader.specs.WellFormed.{Nested}
-use Rattle.bounds.specs.Private.Walks.{LastHolding}
-use Rattle.bounds.proofs.Walking.Holding.{Chain, chain-starts, chain-here, chain-next, takes-one, LessFrom, less-starts, less-steps, less-ends}
+use Rattle.bounds.specs.Holding.{LastHolding}
+use Rattle.bounds.proofs.Walking.Holding.{Chain, chain-starts, chain-here, chain-next, takes-one, ChangedFrom, change-starts, change-steps, oneLess, less-ends}
 use borrow.Author.Needs.{needs}
 use Rattle.bounds.proofs.walk.take_mark.Statement.{statement}
 use Rattle.bounds.proofs.walk.take_mark.Tie as tie
@@ -18,7 +18,7 @@ Inv-loop parents spare₀ inner number₀ spare number =
     (number ≤ inner)
     × (length spare ≡ length spare₀)
     × ((i : ℕ) → i < number → getD spare i 0 ≡ getD spare₀ i 0)
-    × ((F : Family) (leaf : ℕ) → Nested F parents → LastHolding F leaf inner → Chain F leaf number × LessFrom F spare₀ leaf spare number)
+    × ((F : Family) (leaf : ℕ) → Nested F parents → LastHolding F leaf inner → Chain F leaf number × ChangedFrom F (oneLess spare₀) spare₀ leaf spare number)
 
 abbrev μ-loop : tie.MeasureT-loop
 μ-loop parents spare₀ inner number₀ spare number = number
@@ -41,7 +41,7 @@ here c =
     )
 
 loop-holds : tie.Need-loop-holds Inv-loop μ-loop
-loop-holds c = (omega arith, refl, λ i l. refl, λ F leaf n h. (chain-starts F leaf _ h, less-starts F _ leaf _ h))
+loop-holds c = (omega arith, refl, λ i l. refl, λ F leaf n h. (chain-starts F leaf _ h, change-starts F _ _ leaf _ h))
 
 cast-k : tie.Need-cast-k Inv-loop μ-loop
 cast-k c = search needs
@@ -85,7 +85,7 @@ loop-again c =
           let chain = inv .3 F leaf n h .0 in
           let p = n .known (c .before .before .before .loop .number - 1) (omega (arith, chain .0)) in (
             chain-next F (n .ordered) (n .nested) leaf _ chain some _ p,
-            less-steps F (n .ordered) (n .nested) leaf _ chain some _ (c .before .before .before .loop .spare) (here (c .before .before) .1) _ p (inv .3 F leaf n h .1),
+            change-steps F (n .ordered) (n .nested) leaf _ chain some _ _ (c .before .before .before .loop .spare) (here (c .before .before) .1) _ _ p (ap (λ (n : ℕ). n - 1) (inv .2 (c .before .before .before .loop .number - 1) (omega arith))) (inv .3 F leaf n h .1),
           ),
     )
 

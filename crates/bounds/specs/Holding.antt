@@ -1,0 +1,22 @@
+-- The regions that hold a leaf, and the last of them, which is the innermost one.
+use Prim.Native.Nat.{ℕ, suc, _<_, _≤_}
+use mathlib.Core.Bool.{Bool, true, false, _&&_}
+use mathlib.Core.Path.{_≡_}
+use lib.Dec.{leb}
+use Rattle.reader.specs.Family.{Family, regionCount, region}
+
+-- a number is one of those from the first to the last
+unfoldable pub isBetween : ℕ → ℕ → ℕ → Bool
+isBetween first last n = leb first n && leb n last
+
+abbrev pub holdsLeaf : Family → ℕ → ℕ → Bool
+holdsLeaf F leaf k = isBetween (region F k .first) (region F k .last) leaf
+
+-- c is the number, counted from 1, of the last of the first n regions that holds the leaf, or 0 where none does
+pub record LastAmong (F : Family) (n leaf c : ℕ) : Type 0 where
+  pub most : c ≤ n
+  pub holds : (j : ℕ) → c ≡ suc j → holdsLeaf F leaf j ≡ true
+  pub last : (i : ℕ) → c ≤ i → i < n → holdsLeaf F leaf i ≡ false
+
+abbrev pub LastHolding : Family → ℕ → ℕ → Type 0
+LastHolding F leaf c = LastAmong F (regionCount F) leaf c
