@@ -1,5 +1,5 @@
 -- The leaf of a peptide: the walk along the leaf lengths, and what it finds.
-use Prim.Native.Nat.{ℕ, zero, suc, _+_, _*_, _-_, _<_, _≤_}
+use Prim.Native.Nat.{ℕ, zero, suc, _+_, _*_, _-_, _<_, _≤_, min}
 use native.Mathlib.Omega.{arith}
 use native.Mathlib.Nat.{eq-or-lt-of-le}
 use native.Mathlib.Numerals.{add-one}
@@ -58,6 +58,16 @@ module _ (F : Family) where
   pub upTo-mono : (i j : ℕ) → i ≤ j → peptidesUpTo F i ≤ peptidesUpTo F j
   unfolding peptidesUpTo
   upTo-mono i j h = sum-take i j (F .lengths) h
+
+  -- the peptides of the leaves after one and up to j, and of the next one too
+  pub between-more : (after j sum : ℕ) → after ≤ j → sum ≡ peptidesUpTo F j - peptidesUpTo F after → sum + getD (F .lengths) j 0 ≡ peptidesUpTo F (j + 1) - peptidesUpTo F after
+  between-more after j sum l e = omega (arith, up-to-next j, upTo-mono after j l)
+
+  -- leaves from the last one on add nothing
+  pub up-to-within : (j n : ℕ) → n ≡ min j (leaves F) → peptidesUpTo F n ≡ peptidesUpTo F j
+  up-to-within j n e =
+      ⊎-elim (λ t. ap (peptidesUpTo F) (omega (arith, e, leb-true j (leaves F) t))) (λ f. up-to-end n (omega (arith, e, leb-false j (leaves F) f)) ∙ sym (up-to-end j (omega (arith, leb-false j (leaves F) f))))
+      (test (leb j (leaves F)))
 
   -- one leaf more
   pub upTo-leaf : (j : ℕ) → peptidesUpTo F (j + 1) ≡ peptidesUpTo F j + leafLength F (j + 1)

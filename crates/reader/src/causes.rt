@@ -1,8 +1,8 @@
 // Causes 1 to 8: the header, the leaf lengths and the regions one by one.
 use crate::bytes::number_at;
-use crate::bytes::number_within;
 use crate::bytes::same_bytes;
 use crate::family::Region;
+use crate::family::added_lengths;
 use crate::family::leaf_count;
 use crate::family::peptide_count;
 use crate::family::region_count;
@@ -11,7 +11,6 @@ use crate::family::region_within;
 ghost use mathlib.Core.Path.{_≡_};
 ghost use mathlib.Core.Bool.{not};
 ghost use Prim.Native.Nat.{_<_};
-ghost use Rattle.reader.specs.Lists.{sum};
 ghost use Rattle.reader.specs.Family.{familyOf, leaves, regionCount, region};
 ghost use Rattle.reader.specs.Nesting.{before};
 ghost use Rattle.reader.specs.Causes.{cause1, cause5, cause6, cause7, cause8, misplaced, firstCause, headerCauses};
@@ -73,27 +72,13 @@ fn bad_layout(file: &[u8]) -> bool
     file.len() != total
 }
 
-// The lengths of all leaves, added up. The loop has no way out: several lengths are then added at once.
-fn added_lengths(file: &[u8]) -> u32
-    requires { ⌜ Whole (now file) ⌝ }
-    ensures { λ r. ⌜ r ≡ sum (familyOf (now (file .entry)) .lengths) ⌝ }
-{
-    let leaves = leaf_count(file) as usize;
-    let mut sum: u32 = 0;
-    let mut j = 0;
-    while j < leaves {
-        sum += number_within(file, 16 + 2 * j) as u32;
-        j += 1;
-    }
-    sum
-}
-
 // The leaf lengths do not add to m.
 pub(crate) fn bad_lengths(file: &[u8]) -> bool
     requires { ⌜ Whole (now file) ⌝ }
     ensures { λ r. ⌜ r ≡ cause6 (familyOf (now (file .entry))) ⌝ }
 {
-    added_lengths(file) != peptide_count(file) as u32
+    let leaves = leaf_count(file);
+    added_lengths(file, 0, leaves) != peptide_count(file) as u32
 }
 
 // First leaf 0, last below first, or last over N, of some region.

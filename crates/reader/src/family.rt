@@ -1,15 +1,16 @@
 // Leaves, peptides and regions of a family file.
 use crate::bytes::number_at;
 use crate::bytes::number_within;
+use crate::bytes::smaller;
 use crate::leaf_walk::Passed;
 use crate::leaf_walk::leaf_by_leaf;
 use crate::leaf_walk::leaf_of_last;
 use crate::leaf_walk::leaf_of_sixteen;
 use crate::leaf_walk::pass_blocks;
 ghost use mathlib.Core.Path.{_≡_};
-ghost use Prim.Native.Nat.{_+_, _<_, _≤_};
+ghost use Prim.Native.Nat.{_+_, _-_, _<_, _≤_};
 ghost use lib.ListN.{length};
-ghost use Rattle.reader.specs.Family.{familyOf, leaves, regionCount, leafLength, noRegion, region, totalLength};
+ghost use Rattle.reader.specs.Family.{familyOf, leaves, regionCount, leafLength, peptidesUpTo, noRegion, region, regionsOffset, totalLength};
 ghost use Rattle.reader.specs.Calls.{LeafAnswers, held};
 
 // The number of a leaf, 1 to N.
@@ -58,6 +59,53 @@ pub fn leaf_length(file: &[u8], leaf: Leaf) -> u16
         return 0;
     }
     number_at(file, 14 + 2 * (j as usize))
+}
+
+// The lengths of the leaves after one and up to another, added up, where the file has them. The loop has no way out: several lengths
+// are then added at once.
+pub(crate) fn added_lengths(file: &[u8], after: u16, upto: u16) -> u32
+    requires { ⌜ (after ≤ upto) × (upto ≤ leaves (familyOf (now file))) ⌝ }
+    requires { ⌜ regionsOffset upto ≤ length (now file) ⌝ }
+    ensures { λ r. ⌜ r ≡ peptidesUpTo (familyOf (now (file .entry))) upto - peptidesUpTo (familyOf (now (file .entry))) after ⌝ }
+{
+    let end = upto as usize;
+    let mut sum: u32 = 0;
+    let mut j = after as usize;
+    while j < end {
+        sum += number_within(file, 16 + 2 * j) as u32;
+        j += 1;
+    }
+    sum
+}
+
+// The same in a file that lacks some of them: what lies past the end counts as 0.
+fn added_one_by_one(file: &[u8], after: u16, upto: u16) -> u32
+    requires { ⌜ (after ≤ upto) × (upto ≤ leaves (familyOf (now file))) ⌝ }
+    ensures { λ r. ⌜ r ≡ peptidesUpTo (familyOf (now (file .entry))) upto - peptidesUpTo (familyOf (now (file .entry))) after ⌝ }
+{
+    let end = upto as usize;
+    let mut sum: u32 = 0;
+    let mut j = after as usize;
+    while j < end {
+        sum += number_at(file, 16 + 2 * j) as u32;
+        j += 1;
+    }
+    sum
+}
+
+// How many peptides the leaves after one and up to another have, as their lengths say.
+pub fn peptides_between(file: &[u8], after: Leaf, upto: Leaf) -> u32
+    ensures { λ r. ⌜ r ≡ peptidesUpTo (familyOf (now (file .entry))) (upto .0) - peptidesUpTo (familyOf (now (file .entry))) (after .0) ⌝ }
+{
+    let start = after.0;
+    let end = smaller(upto.0, leaf_count(file));
+    if end <= start {
+        return 0;
+    }
+    if file.len() < 16 + 2 * (end as usize) {
+        return added_one_by_one(file, start, end);
+    }
+    added_lengths(file, start, end)
 }
 
 // The leaf of a peptide, found by walking the leaf lengths; leaf 0 where they end before it. Fewer leaves than the smallest block

@@ -1,35 +1,29 @@
--- The loop has added the lengths before leaf j.
-use Prim.Native.Nat.{_≤_, _-_, _*_}
+-- The loop has added the lengths of the leaves after the first one named and up to leaf j.
+use Prim.Native.Nat.{ℕ, _+_, _≤_, _-_, _*_}
 use native.Mathlib.Omega.{arith}
-use mathlib.Core.Path.{_≡_, sym}
+use mathlib.Core.Path.{_≡_, sym, ap, _∙_}
 use denote.Ref.{now}
-use Rattle.reader.specs.Family.{familyOf, leaves, peptidesUpTo}
+use Rattle.reader.specs.Family.{familyOf, peptidesUpTo}
 use Rattle.reader.proofs.Parsed.{leaves-read, length-number}
-use Rattle.reader.proofs.Walk.{nothing-before, up-to-next, up-to-end}
+use Rattle.reader.proofs.Walk.{between-more}
 use borrow.Author.Needs.{needs}
-use Rattle.reader.proofs.causes.added_lengths.Statement.{statement}
-use Rattle.reader.proofs.causes.added_lengths.Tie as tie
+use Rattle.reader.proofs.family.added_lengths.Statement.{statement}
+use Rattle.reader.proofs.family.added_lengths.Tie as tie
 
 abbrev Inv-loop : tie.InvT-loop
-Inv-loop file n sum₀ j₀ sum j =
-    (j ≤ n)
-    × (n ≡ leaves (familyOf file))
-    × (n ≤ 65535)
+Inv-loop file after upto end sum₀ j₀ sum j =
+    (after ≤ j)
+    × (j ≤ end)
+    × (end ≡ upto)
+    × (upto ≤ 65535)
     × (sum ≤ 65535 * j)
-    × (sum ≡ peptidesUpTo (familyOf file) j)
+    × (sum ≡ peptidesUpTo (familyOf file) j - peptidesUpTo (familyOf file) after)
 
 abbrev μ-loop : tie.MeasureT-loop
-μ-loop file n sum₀ j₀ sum j = n - j
-
-leaf-count-requires : tie.Need-leaf-count-requires Inv-loop μ-loop
-leaf-count-requires c κs = search needs
-
-cast-leaves : tie.Need-cast-leaves Inv-loop μ-loop
-cast-leaves c = search needs
+μ-loop file after upto end sum₀ j₀ sum j = end - j
 
 loop-holds : tie.Need-loop-holds Inv-loop μ-loop
-loop-holds c =
-    (omega arith, c .leaf-count .ensures, omega (arith, c .leaf-count .ok), omega arith, sym (nothing-before _))
+loop-holds c = search needs
 
 mul-number-within : tie.Need-mul-number-within Inv-loop μ-loop
 mul-number-within c = search needs
@@ -54,15 +48,22 @@ loop-less c = search needs
 
 loop-again : tie.Need-loop-again Inv-loop μ-loop
 loop-again c =
-    let s = now (c .before .before .before .before .before .args .file) in
+    let s = now (c .before .before .before .before .args .file) in
     let j = c .before .before .loop .j in
     let inv = c .before .before .loop .inv in
-    (omega arith, inv .1, inv .2, omega (arith, c .number-within .ok), omega (arith, up-to-next (familyOf s) j, length-number s j (omega (arith, leaves-read s))))
+    let l = length-number s j (omega (arith, leaves-read s)) in (
+      omega arith,
+      omega arith,
+      inv .2,
+      inv .3,
+      omega (arith, c .number-within .ok),
+      ap (λ (n : ℕ). c .before .before .loop .sum + n) (c .number-within .ensures ∙ sym l) ∙ between-more (familyOf s) (c .before .before .before .before .args .after) j (c .before .before .loop .sum) (inv .0) (inv .5),
+    )
 
 returns : tie.Need-returns Inv-loop μ-loop
 returns c =
-    let s = now (c .before .before .before .before .args .file) in
-    omega (arith, up-to-end (familyOf s) (c .before .loop .j) (omega arith))
+    let end : c .before .loop .j ≡ c .before .before .before .args .upto = omega arith in
+    rw (← end) (c .before .loop .inv .5)
 
 pub added-lengths-spec : {M : Type 1} → statement M
 added-lengths-spec =
@@ -70,8 +71,6 @@ added-lengths-spec =
     (tie.spec
     Inv-loop
     μ-loop
-    leaf-count-requires
-    cast-leaves
     loop-holds
     mul-number-within
     add-number-within
