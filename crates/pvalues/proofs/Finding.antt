@@ -1,0 +1,2 @@
+-- What the loops that find the z of all regions keep.
+pub mod Painting

@@ -1,0 +1,2 @@
+-- The laws of `pvalues`.
+pub mod Finding
