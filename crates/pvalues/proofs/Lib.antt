@@ -1,2 +1,5 @@
 -- The laws of `pvalues`.
+pub mod Theory
+pub mod Sorting
 pub mod Finding
+pub mod Examples

@@ -19,17 +19,17 @@ use Rattle.bounds.specs.Calls.{IsPath}
 use Rattle.bounds.proofs.Calls.PathLaws.{accepted-path}
 use Rattle.bounds.proofs.Theory.Marks.{entry-start}
 
-largest-most : (n : ℕ) (p : ℕ → Bool) → largestUpTo n p ≤ n
+pub largest-most : (n : ℕ) (p : ℕ → Bool) → largestUpTo n p ≤ n
 unfolding largestUpTo
 largest-most zero p = omega arith
 largest-most (suc n) p = ⊎-elim (λ y. rw y (omega arith)) (λ no. rw no (omega (arith, largest-most n p))) (test (p (suc n)))
 
-largest-passes : (n : ℕ) (p : ℕ → Bool) → p 0 ≡ true → p (largestUpTo n p) ≡ true
+pub largest-passes : (n : ℕ) (p : ℕ → Bool) → p 0 ≡ true → p (largestUpTo n p) ≡ true
 unfolding largestUpTo
 largest-passes zero p h = h
 largest-passes (suc n) p h = ⊎-elim (λ y. rw y y) (λ no. rw no (largest-passes n p h)) (test (p (suc n)))
 
-largest-is : (n : ℕ) (p : ℕ → Bool) (u : ℕ) → u ≤ n → p u ≡ true → u ≤ largestUpTo n p
+pub largest-is : (n : ℕ) (p : ℕ → Bool) (u : ℕ) → u ≤ n → p u ≡ true → u ≤ largestUpTo n p
 unfolding largestUpTo
 largest-is zero p u l h = l
 largest-is (suc n) p u l h =

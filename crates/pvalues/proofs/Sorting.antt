@@ -1,0 +1,3 @@
+-- Sorting by counting.
+pub mod ByKey
+pub mod Passes
