@@ -2,3 +2,5 @@
 pub mod Ordering
 pub mod Lowering
 pub mod Climbing
+pub mod Writing
+pub mod Judging

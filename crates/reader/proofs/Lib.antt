@@ -11,4 +11,5 @@ pub mod Accepting
 pub mod LeafLaws
 pub mod ParentLaws
 pub mod Files
+pub mod NumberRows
 pub mod Examples

@@ -2,6 +2,7 @@
 use Prim.Native.Nat.{ℕ, _+_, _*_, _/_, _%_, _<_}
 use mathlib.Core.List.{List, [], _∷_}
 use lib.ListN.{getD}
+use lib.Seq.{sets}
 
 -- every element is a byte, as it is in every `&[u8]`
 abbrev pub IsBytes : List ℕ → Type 0
@@ -15,3 +16,7 @@ numberAt s i = getD s i 0 + 256 * getD s (i + 1) 0
 unfoldable pub bytesOf : List ℕ → List ℕ
 bytesOf [] = []
 bytesOf (n ∷ ns) = n % 256 ∷ n / 256 % 256 ∷ bytesOf ns
+
+-- a list of bytes with the numbers written over it from an offset on, 2 bytes each; a byte past the end is not written
+unfoldable pub withNumbers : List ℕ → ℕ → List ℕ → List ℕ
+withNumbers out at ns = sets out at (bytesOf ns)

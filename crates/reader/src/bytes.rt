@@ -1,8 +1,9 @@
 // Bytes, and numbers of 2 bytes, low byte first.
 ghost use mathlib.Core.Path.{_≡_};
+ghost use mathlib.Core.List.{[], _∷_};
 ghost use Prim.Native.Nat.{_+_, _≤_, min};
-ghost use lib.ListN.{length, getD};
-ghost use Rattle.reader.specs.Bytes.{numberAt};
+ghost use lib.ListN.{length, getD, set};
+ghost use Rattle.reader.specs.Bytes.{numberAt, withNumbers};
 ghost use Rattle.reader.specs.Lists.{sameList};
 
 // The byte at an offset; 0 past the end.
@@ -34,6 +35,39 @@ pub fn number_at(s: &[u8], at: usize) -> u16
         number_within(s, at)
     } else {
         byte_at(s, at) as u16
+    }
+}
+
+// Writes a byte at an offset; past the end nothing.
+fn put_byte(out: &mut [u8], at: usize, byte: u8)
+    ensures { λ _. ⌜ now (out .exit) ≡ set (now (out .entry)) at byte ⌝ }
+{
+    if at < out.len() {
+        out[at] = byte;
+    }
+}
+
+// Writes a number whose two bytes both lie in the slice.
+fn put_within(out: &mut [u8], at: usize, n: u16)
+    requires { ⌜ at + 2 ≤ length (now out) ⌝ }
+    ensures { λ _. ⌜ now (out .exit) ≡ withNumbers (now (out .entry)) at (n ∷ []) ⌝ }
+{
+    out[at] = (n % 256) as u8;
+    out[at + 1] = (n / 256) as u8;
+}
+
+// Writes a number at an offset; what lies past the end is not written. One comparison settles both bytes of any but the last.
+pub fn put_number(out: &mut [u8], at: usize, n: u16)
+    ensures { λ _. ⌜ now (out .exit) ≡ withNumbers (now (out .entry)) at (n ∷ []) ⌝ }
+{
+    let end = out.len();
+    if end == 0 {
+        return;
+    }
+    if at < end - 1 {
+        put_within(out, at, n);
+    } else {
+        put_byte(out, at, (n % 256) as u8);
     }
 }
 

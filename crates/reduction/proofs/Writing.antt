@@ -1,4 +1,3 @@
 -- What follows the code that writes the reduced file (`write`).
-pub mod NumberRows
 pub mod LeafEnds
 pub mod WholeFile

@@ -1,28 +1,20 @@
 // The file of the reduced ranges, written at the start of the output: where ranges begin and end, and from this the header, the
 // leaf lengths and the regions.
 use crate::Size;
+use reader::bytes::put_number;
 use reader::family::peptide_count;
 ghost use mathlib.Core.Path.{_≡_};
-ghost use mathlib.Core.List.{[], _∷_, _++_};
+ghost use mathlib.Core.List.{_++_};
 ghost use Prim.Native.Nat.{ℕ, _+_, _*_, _<_, _≤_};
 ghost use lib.ListN.{length, getD};
 ghost use lib.Seq.{sets};
-ghost use Rattle.reader.specs.Bytes.{bytesOf};
+ghost use Rattle.reader.specs.Bytes.{bytesOf, withNumbers};
 ghost use Rattle.reader.specs.Family.{mark};
 ghost use Rattle.reader.specs.Causes.{Accepted};
 ghost use Rattle.bounds.specs.Ranges.{card};
 ghost use Rattle.reduction.specs.Reduction.{leafLengths};
 ghost use Rattle.reduction.specs.Private.Steps.{Listed};
-ghost use Rattle.reduction.specs.Private.Writing.{withNumbers, headerNumbers, OnLine, endsAt, Marks, markedIn, regionNumbers, Wrote};
-
-// Writes a number as two bytes, low byte first.
-fn put_number(out: &mut [u8], at: usize, n: u16)
-    requires { ⌜ at + 2 ≤ length (now out) ⌝ }
-    ensures { λ _. ⌜ now (out .exit) ≡ withNumbers (now (out .entry)) at (n ∷ []) ⌝ }
-{
-    out[at] = (n % 256) as u8;
-    out[at + 1] = (n / 256) as u8;
-}
+ghost use Rattle.reduction.specs.Private.Writing.{headerNumbers, OnLine, endsAt, Marks, markedIn, regionNumbers, Wrote};
 
 // Writes numbers in a row.
 fn put_numbers(out: &mut [u8], at: usize, numbers: &[u16])

@@ -49,7 +49,7 @@ pub range-at : (F : Family) (k : ℕ) → getD (rangesOf F) k (noRange F) ≡ ra
 unfolding rangesOf region
 range-at F k = List·getD-map (rangeOf F) (F .regions) k noRegion
 
-map-tabulate : {A B : Type 0} (d : A) (f : A → B) (L : List A) → map f L ≡ tabulate (length L) (λ k. f (getD L k d))
+pub map-tabulate : {A B : Type 0} (d : A) (f : A → B) (L : List A) → map f L ≡ tabulate (length L) (λ k. f (getD L k d))
 unfolding tabulate
 map-tabulate d f [] = refl
 map-tabulate d f (x ∷ L) = ap (λ M. f x ∷ M) (map-tabulate d f L)

@@ -11,12 +11,13 @@ use lib.Seq.{getD-set-same, getD-set-other}
 use lib.Dec.{eqb}
 use borrow.Author.Tests.{eqb-true, eqb-false}
 use Rattle.reader.specs.Lists.{someBelow}
+use Rattle.reader.specs.Bytes.{withNumbers}
+use Rattle.reader.proofs.NumberRows.{numbers-none, numbers-join}
 use Rattle.bounds.specs.Ranges.{Peptides, card}
 use Rattle.bounds.proofs.Basics.Members.{test, eqb-bit}
 use Rattle.reduction.specs.Reduction.{rising, lastOf, leafLengths}
-use Rattle.reduction.specs.Private.Writing.{withNumbers, endsAt, Marks, markedIn, regionNumbers}
+use Rattle.reduction.specs.Private.Writing.{endsAt, Marks, markedIn, regionNumbers}
 use Rattle.reduction.proofs.Theory.Leaves.{leaves-count}
-use Rattle.reduction.proofs.Writing.NumberRows.{numbers-none, numbers-join}
 
 -- Marks.
 

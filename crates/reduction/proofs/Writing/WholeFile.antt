@@ -10,18 +10,19 @@ use lib.ListN.{length, getD, take, drop, length-append, length-map}
 use lib.Seq.{sets, sets-eq, take-suc, take-all}
 use lib.Dec.{eqb}
 use Rattle.reader.specs.Lists.{someBelow}
-use Rattle.reader.specs.Bytes.{IsBytes, bytesOf}
+use Rattle.reader.specs.Bytes.{IsBytes, bytesOf, withNumbers}
 use Rattle.reader.specs.Family.{Region, Family, leaves, regionCount, familyOf, mark, totalLength, regionFields, fields, fileOf, noRegion}
 use Rattle.reader.specs.Causes.{Accepted}
 use Rattle.reader.specs.WellFormed.{WellFormed}
 use Rattle.reader.proofs.Below.{found, some-at}
 use Rattle.reader.proofs.Accepting.{well-formed}
 use Rattle.reader.proofs.Files.{length-bytes, file-length, field-read}
+use Rattle.reader.proofs.NumberRows.{bytes-join, sets-join, fields-join}
 use Rattle.bounds.specs.Ranges.{Range, Peptides, card, some, rangesOf, In}
 use Rattle.bounds.proofs.Basics.Members.{in-at, place, some-in, some-found, both-ways}
 use Rattle.reduction.specs.Reduction.{rising, endsLeaf, leafLengths, regionOf, writtenFamily, reducedFamily, reducedFile}
 use Rattle.reduction.specs.Private.Steps.{Begins, reducedRanges, Listed}
-use Rattle.reduction.specs.Private.Writing.{withNumbers, headerNumbers, OnLine, endsAt, Marks, markedIn, regionNumbers, Wrote}
+use Rattle.reduction.specs.Private.Writing.{headerNumbers, OnLine, endsAt, Marks, markedIn, regionNumbers, Wrote}
 use Rattle.reduction.proofs.Basics.Plain.{Plain}
 use Rattle.reduction.proofs.Basics.Grid.{FileOrder, before-le}
 use Rattle.reduction.proofs.Theory.RunOrStretch.{plain, first}
@@ -31,18 +32,12 @@ use Rattle.reduction.proofs.Theory.Leaves.{leaves-count}
 use Rattle.reduction.proofs.Theory.Accepted.{reduced-wellformed}
 use Rattle.reduction.proofs.Theory.OneFile.{reduced-file-fits}
 use Rattle.reduction.proofs.Stretching.ListFronts.{begins-at, begins-room, map-at}
-use Rattle.reduction.proofs.Writing.NumberRows.{bytes-join, sets-join}
 use Rattle.reduction.proofs.Writing.LeafEnds.{marked-set, region-numbers-next}
 
 -- A list of numbers that begins with a number of each range.
 
 abbrev noRange : Range
 noRange = record { from = 0; to = 0; low = 0; high = 0; z = 0 }
-
-fields-join : (rs qs : List Region) → regionFields (rs ++ qs) ≡ regionFields rs ++ regionFields qs
-unfolding regionFields
-fields-join [] qs = refl
-fields-join (r ∷ rs) qs = ap (λ (l : List ℕ). r .first ∷ r .last ∷ r .z ∷ l) (fields-join rs qs)
 
 module _ (f : Range → ℕ) (Q : List Range) (L : List ℕ) (b : Begins (map f Q) L) where
   number-at : (k : ℕ) → k < length Q → getD L k 0 ≡ f (getD Q k noRange)

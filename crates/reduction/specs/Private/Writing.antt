@@ -4,17 +4,12 @@ use mathlib.Core.Bool.{cond, _||_}
 use mathlib.Core.List.{List, [], _∷_, _++_}
 use mathlib.Core.Path.{_≡_}
 use lib.ListN.{length, getD, drop}
-use lib.Seq.{sets}
 use lib.Dec.{eqb}
 use Rattle.reader.specs.Lists.{someBelow}
-use Rattle.reader.specs.Bytes.{numberAt, bytesOf}
+use Rattle.reader.specs.Bytes.{numberAt}
 use Rattle.reader.specs.Family.{lengthsOffset, regionsOffset, totalLength}
 use Rattle.bounds.specs.Ranges.{Peptides, card}
 use Rattle.reduction.specs.Reduction.{rising, reducedFile}
-
--- a list of bytes with the numbers written over it from an offset on, 2 bytes each
-unfoldable pub withNumbers : List ℕ → ℕ → List ℕ → List ℕ
-withNumbers out at ns = sets out at (bytesOf ns)
 
 -- the six numbers after the mark, of a family with N leaves and K regions
 abbrev pub headerNumbers : ℕ → ℕ → ℕ → List ℕ

@@ -6,8 +6,8 @@ use mathlib.Core.Path.{_≡_, refl, sym, ap, _∙_}
 use lib.ListN.{length, take, getD}
 use lib.Seq.{take-all}
 use denote.Ref.{now}
-use Rattle.reduction.specs.Private.Writing.{withNumbers}
-use Rattle.reduction.proofs.Writing.NumberRows.{numbers-none, numbers-next}
+use Rattle.reader.specs.Bytes.{withNumbers}
+use Rattle.reader.proofs.NumberRows.{numbers-none, numbers-next}
 use borrow.Author.Needs.{needs}
 use Rattle.reduction.proofs.write.put_numbers.Statement.{statement}
 use Rattle.reduction.proofs.write.put_numbers.Tie as tie

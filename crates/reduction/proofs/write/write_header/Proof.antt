@@ -4,8 +4,8 @@ use mathlib.Core.Path.{refl, ap, _∙_}
 use Prim.Native.Nat.{ℕ}
 use lib.Seq.{sets}
 use Rattle.reader.specs.Family.{mark}
-use Rattle.reader.specs.Bytes.{bytesOf}
-use Rattle.reduction.specs.Private.Writing.{withNumbers, headerNumbers}
+use Rattle.reader.specs.Bytes.{bytesOf, withNumbers}
+use Rattle.reduction.specs.Private.Writing.{headerNumbers}
 use borrow.Author.Needs.{needs}
 use Rattle.reduction.proofs.write.write_header.Statement.{statement}
 use Rattle.reduction.proofs.write.write_header.Tie as tie

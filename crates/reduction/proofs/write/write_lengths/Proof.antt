@@ -6,9 +6,10 @@ use mathlib.Core.Path.{_≡_, refl, sym, ap, _∙_}
 use borrow.Author.Tests.{eq-eqb, ne-eqb}
 use lib.ListN.{length}
 use denote.Ref.{now}
+use Rattle.reader.specs.Bytes.{withNumbers}
 use Rattle.bounds.specs.Ranges.{card}
 use Rattle.reduction.specs.Reduction.{lastOf, leafLengths}
-use Rattle.reduction.specs.Private.Writing.{withNumbers, markedIn}
+use Rattle.reduction.specs.Private.Writing.{markedIn}
 use Rattle.reduction.proofs.Basics.Counts.{card-up}
 use Rattle.reduction.proofs.Basics.FirstLast.{lastOf-small}
 use Rattle.reduction.proofs.Writing.LeafEnds.{LeafEnds, leaf-ends, LeafGoesOn, leaf-goes-on, lengths-none, lengths-more}

@@ -5,11 +5,11 @@ use mathlib.Core.List.{List}
 use mathlib.Core.Path.{_≡_, ap, _∙_}
 use lib.ListN.{length}
 use denote.Ref.{now}
-use Rattle.reader.specs.Bytes.{IsBytes}
+use Rattle.reader.specs.Bytes.{IsBytes, withNumbers}
 use Rattle.reader.specs.Family.{familyOf}
 use Rattle.bounds.specs.Ranges.{card}
 use Rattle.reduction.specs.Reduction.{leafLengths}
-use Rattle.reduction.specs.Private.Writing.{withNumbers, OnLine, endsAt, Marks, markedIn, regionNumbers}
+use Rattle.reduction.specs.Private.Writing.{OnLine, endsAt, Marks, markedIn, regionNumbers}
 use Rattle.reader.proofs.Lists.{zeros}
 use Rattle.reduction.proofs.Writing.LeafEnds.{marks-itself, count-all}
 use Rattle.reduction.proofs.Writing.WholeFile.{Room, ranges-listed, bounds-there, has-room, wrote}

@@ -5,10 +5,11 @@ use mathlib.Core.List.{List, [], _∷_}
 use mathlib.Core.Path.{_≡_, refl, sym, ap, ap₂, _∙_}
 use lib.ListN.{length, getD}
 use denote.Ref.{now}
+use Rattle.reader.specs.Bytes.{withNumbers}
+use Rattle.reader.proofs.NumberRows.{numbers-none}
 use Rattle.bounds.specs.Ranges.{card}
 use Rattle.bounds.proofs.Basics.Counting.{card-most}
-use Rattle.reduction.specs.Private.Writing.{withNumbers, markedIn, regionNumbers}
-use Rattle.reduction.proofs.Writing.NumberRows.{numbers-none}
+use Rattle.reduction.specs.Private.Writing.{markedIn, regionNumbers}
 use Rattle.reduction.proofs.Writing.LeafEnds.{region-numbers-none, regions-more}
 use borrow.Author.Needs.{needs}
 use Rattle.reduction.proofs.write.write_regions.Statement.{statement}

@@ -1,20 +1,25 @@
 -- Numbers written in a row over a list of bytes.
-use Prim.Native.Nat.{ℕ, suc, _+_, _*_, _/_, _%_, _<_}
+use Prim.Native.Nat.{ℕ, suc, _+_, _*_, _/_, _%_, _<_, _≤_}
 use mathlib.Core.List.{List, [], _∷_, _++_}
 use mathlib.Core.Path.{_≡_, refl, sym, ap, _∙_}
 use native.Mathlib.Nat.{add-zero}
 use native.Mathlib.Numerals.{add-one}
 use native.Mathlib.Omega.{arith}
-use lib.ListN.{length, getD, take, set}
-use lib.Seq.{sets, length-take-le, take-suc}
-use Rattle.reader.specs.Bytes.{bytesOf}
+use lib.ListN.{length, getD, take, set, length-set}
+use lib.Seq.{sets, length-take-le, take-suc, set-out}
+use Rattle.reader.specs.Bytes.{bytesOf, withNumbers}
+use Rattle.reader.specs.Family.{Region, regionFields}
 use Rattle.reader.proofs.Files.{length-bytes}
-use Rattle.reduction.specs.Private.Writing.{withNumbers}
 
 pub bytes-join : (ns ms : List ℕ) → bytesOf (ns ++ ms) ≡ bytesOf ns ++ bytesOf ms
 unfolding bytesOf
 bytes-join [] ms = refl
 bytes-join (n ∷ ns) ms = ap (λ (l : List ℕ). n % 256 ∷ n / 256 % 256 ∷ l) (bytes-join ns ms)
+
+pub fields-join : (rs qs : List Region) → regionFields (rs ++ qs) ≡ regionFields rs ++ regionFields qs
+unfolding regionFields
+fields-join [] qs = refl
+fields-join (r ∷ rs) qs = ap (λ (l : List ℕ). r .first ∷ r .last ∷ r .z ∷ l) (fields-join rs qs)
 
 -- a second run of stores goes on where the first ends
 pub sets-join : (l : List ℕ) (i : ℕ) (xs ys : List ℕ) (j : ℕ) → j ≡ i + length xs → sets (sets l i xs) j ys ≡ sets l i (xs ++ ys)
@@ -44,3 +49,13 @@ module _ (out : List ℕ) (at : ℕ) where
   number-put n h =
       let high : n / 256 ≡ n / 256 % 256 = omega arith in
       rw (add-one at, ← high)
+
+  -- where the high byte lies past the end it is the store of the low byte
+  pub low-byte-put : (n : ℕ) → length out ≤ at + 1 → set out at (n % 256) ≡ withNumbers out at (n ∷ [])
+  unfolding withNumbers bytesOf
+  low-byte-put n h =
+      sym (set-out (set out at (n % 256)) (suc at) (n / 256 % 256) (omega (arith, length-set out at (n % 256))))
+
+  -- and where both do it is no store
+  pub no-byte-put : (n : ℕ) → length out ≤ at → out ≡ withNumbers out at (n ∷ [])
+  no-byte-put n h = sym (set-out out at (n % 256) h) ∙ low-byte-put n (omega arith)

@@ -2,10 +2,10 @@
 use native.Mathlib.Omega.{arith}
 use lib.ListN.{length-set}
 use denote.Ref.{now}
-use Rattle.reduction.proofs.Writing.NumberRows.{number-put}
+use Rattle.reader.proofs.NumberRows.{number-put}
 use borrow.Author.Needs.{needs}
-use Rattle.reduction.proofs.write.put_number.Statement.{statement}
-use Rattle.reduction.proofs.write.put_number.Tie as tie
+use Rattle.reader.proofs.bytes.put_within.Statement.{statement}
+use Rattle.reader.proofs.bytes.put_within.Tie as tie
 
 cast-out : tie.Need-cast-out
 cast-out c = search needs
@@ -28,7 +28,7 @@ same-length c = search needs
 returns : tie.Need-returns
 returns c = number-put (now (c .args .out)) (c .args .at) (c .args .n) (omega arith)
 
-pub put-number-spec : {M : Type 1} → statement M
-put-number-spec =
+pub put-within-spec : {M : Type 1} → statement M
+put-within-spec =
     tie.close
     (tie.spec cast-out slice-write-out cast-out-2 add-out slice-write-out-2 same-length returns)

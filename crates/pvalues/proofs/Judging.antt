@@ -1,0 +1,129 @@
+-- Causes 16 and 20 to 22: the first that holds, and what is known where none does.
+use Prim.Native.Nat.{ℕ, _+_, _<_, _≤_}
+use native.Mathlib.Numerals.{add-one}
+use native.Mathlib.Omega.{arith}
+use mathlib.Core.Bool.{Bool, true, false, cond, not, _||_}
+use mathlib.Core.List.{List}
+use mathlib.Core.Logic.{⊎-elim}
+use mathlib.Core.Path.{_≡_, refl, sym, _∙_}
+use lib.ListN.{length, getD}
+use lib.Dec.{eqb, ltb}
+use borrow.Author.Tests.{eqb-true, ltb-false, not-false, lt-ltb, le-ltb, ne-eqb, eq-eqb}
+use Rattle.reader.specs.Lists.{someBelow}
+use Rattle.reader.specs.Bytes.{IsBytes}
+use Rattle.reader.specs.Family.{familyOf, regionCount}
+use Rattle.reader.specs.Causes.{firstCause, fileCauses, Accepted}
+use Rattle.reader.specs.Calls.{short, parentsCauses, ParentsWrites}
+use Rattle.reader.specs.WellFormed.{WellFormed, Nested}
+use Rattle.reader.proofs.Below.{none-at}
+use Rattle.reader.proofs.First.{head-clear, join-clear, join-holds}
+use Rattle.reader.proofs.Parsed.{byte-past}
+use Rattle.reader.proofs.Accepting.{well-formed, accepted-header, few-regions, file-numbered}
+use Rattle.reader.proofs.ParentLaws.{enough-room, enough-first, parents-given}
+use Rattle.bounds.proofs.Basics.Members.{le-or-lt}
+use Rattle.pvalues.specs.FromP.{million, cause20, cause21, cause22}
+use Rattle.pvalues.specs.Calls.{fromPInputs, fromPCauses}
+use Rattle.pvalues.specs.Private.Lowering.{PValues}
+use Rattle.pvalues.specs.Private.Climbing.{Parented}
+use Rattle.pvalues.specs.Private.Judging.{Ready, FromPJudged}
+
+-- The p-values, one by one.
+
+-- the p-value at a place is over 1,000,000
+abbrev pub overOne : List ℕ → ℕ → Bool
+overOne ps i = ltb million (getD ps i 0)
+
+pub values-none : (ps : List ℕ) → false ≡ someBelow 0 (overOne ps)
+unfolding someBelow
+values-none ps = refl
+
+pub values-more : (ps : List ℕ) (i : ℕ) (before here : Bool) → before ≡ someBelow i (overOne ps) → here ≡ overOne ps i → before || here ≡ someBelow (i + 1) (overOne ps)
+unfolding someBelow
+values-more ps i before here e h = rw (e, h, add-one i)
+
+pub values-all : (ps : List ℕ) (i : ℕ) → i ≡ length ps → someBelow i (overOne ps) ≡ cause21 ps
+unfolding cause21
+values-all ps i e = rw e
+
+values-most : (ps : List ℕ) → cause21 ps ≡ false → (i : ℕ) → getD ps i 0 ≤ million
+unfolding cause21
+values-most ps h i =
+    ⊎-elim (λ (l : length ps ≤ i). omega (arith, byte-past ps i l)) (λ (l : i < length ps). ltb-false million (getD ps i 0) (none-at (overOne ps) (length ps) i h l)) (le-or-lt (length ps) i)
+
+-- The causes in the order in which they are tried.
+
+module _ (file ps : List ℕ) (deviationSquared room : ℕ) where
+  pub input-16 : room < length file → firstCause (fromPInputs file ps deviationSquared room) ≡ 16
+  unfolding firstCause fromPInputs short
+  input-16 h = rw (lt-ltb room (length file) h)
+
+  -- there is room
+  module _ (h : length file ≤ room) where
+    pub input-20 : (length ps ≡ familyOf file .peptides → ⊥) → firstCause (fromPInputs file ps deviationSquared room) ≡ 20
+    unfolding firstCause fromPInputs short cause20
+    input-20 k = rw (le-ltb room (length file) h, ne-eqb (length ps) (familyOf file .peptides) k)
+
+    -- there are m p-values
+    module _ (k : length ps ≡ familyOf file .peptides) where
+      pub input-21 : cause21 ps ≡ true → firstCause (fromPInputs file ps deviationSquared room) ≡ 21
+      unfolding firstCause fromPInputs short cause20
+      input-21 l = rw (le-ltb room (length file) h, eq-eqb (length ps) (familyOf file .peptides) k, l)
+
+      pub input-22 : cause21 ps ≡ false → firstCause (fromPInputs file ps deviationSquared room) ≡ cond (ltb 100000000 deviationSquared) 22 0
+      unfolding firstCause fromPInputs short cause20 cause22
+      input-22 l = rw (le-ltb room (length file) h, eq-eqb (length ps) (familyOf file .peptides) k, l)
+
+  pub inputs-known : firstCause (fromPInputs file ps deviationSquared room) ≡ 0 → PValues (familyOf file) ps deviationSquared × (length file ≤ room)
+  unfolding fromPInputs short cause20 cause22
+  inputs-known h =
+      let a = head-clear _ _ (omega arith) h in
+      let b = head-clear _ _ (omega arith) (a .1) in
+      let c = head-clear _ _ (omega arith) (b .1) in
+      let d = head-clear _ _ (omega arith) (c .1) in (
+        record {
+          values = eqb-true (length ps) (familyOf file .peptides) (not-false _ (b .0));
+          most = values-most ps (c .0);
+          constant = ltb-false 100000000 deviationSquared (d .0);
+        },
+        ltb-false room (length file) (a .0),
+      )
+
+  first-file : (firstCause (fileCauses file) ≡ 0 → ⊥) → firstCause (fromPCauses file ps deviationSquared room) ≡ firstCause (fileCauses file)
+  unfolding fromPCauses
+  first-file h = join-holds (fileCauses file) (fromPInputs file ps deviationSquared room) h
+
+  pub first-input : Accepted file → firstCause (fromPCauses file ps deviationSquared room) ≡ firstCause (fromPInputs file ps deviationSquared room)
+  unfolding fromPCauses
+  first-input h = join-clear (fileCauses file) (fromPInputs file ps deviationSquared room) (file-numbered file) h
+
+  pub judged-refused : (P : List ℕ) (n : ℕ) → n ≡ firstCause (fileCauses file) → (n ≡ 0 → ⊥) → FromPJudged file ps deviationSquared room P n
+  judged-refused P n e some = record { first = e ∙ sym (first-file (λ z. some (e ∙ z))); ready = λ z. absurd (some z) }
+
+  -- an accepted file, whose parents stand in the list that `parents` leaves
+  pub judged-accepted : IsBytes file → Accepted file → (out P : List ℕ) → 8191 ≤ length out → length P ≡ length out → ParentsWrites file out P
+      → (n : ℕ) → n ≡ firstCause (fromPInputs file ps deviationSquared room) → FromPJudged file ps deviationSquared room P n
+  judged-accepted bytes accepted out P enough same writes n e =
+      record {
+        first = e ∙ sym (first-input accepted);
+        ready =
+            λ z.
+            let w = well-formed file bytes accepted in
+            let known = inputs-known (sym e ∙ z) in
+            record {
+              accepted = accepted;
+              parented =
+                  record {
+                    well = w;
+                    nested =
+                        record {
+                          ordered = w .ordered;
+                          nested = w .nested;
+                          known = parents-given file out (enough-first file out enough ∙ accepted) P writes;
+                          few = few-regions file (accepted-header file accepted);
+                          room = omega (arith, enough-room file out enough accepted, same);
+                        };
+                  };
+              known = known .0;
+              fits = known .1;
+            };
+      }
