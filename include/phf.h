@@ -2,9 +2,9 @@
  * phf.h - bounds on false peptides over nested regions: curves and reduced families.
  *
  * A family says, for each of a number of nested or disjoint regions of peptides, that at most z of the region's
- * peptides are false. These calls check such a family, tell how many of a selection of peptides can be false at most,
- * make such a selection from p-values and fold changes, draw that number along a ranking, cut the ranking at a wanted
- * fraction, bring a family into its shortest form, and compare two families.
+ * peptides are false. These calls check such a family, compute its z from p-values, tell how many of a selection of
+ * peptides can be false at most, make such a selection from p-values and fold changes, draw that number along a ranking,
+ * cut the ranking at a wanted fraction, bring a family into its shortest form, and compare two families.
  *
  * Every function here is proved: for all inputs, well formed or not, it returns and writes what is said below.
  * What the proofs take for granted is the usual contract of C:
@@ -22,6 +22,7 @@
  * largest and deepest families use of this library and 1 KB more, up to the next 4 KB; measured, not proved; a test makes every
  * call on just that much):
  *     phf_check, phf_regions                                        28 KB
+ *     phf_bounds_from_p                                            100 KB
  *     phf_bound                                                     32 KB
  *     phf_curve                                                     44 KB
  *     phf_cut                                                       48 KB
@@ -32,9 +33,9 @@
  * BUILDING. tools/staticlib proves the functions and writes target/staticlib/libphf.a, to link with a program;
  * tools/sharedlib makes target/sharedlib/libphf.so of it. Both run in any folder and print where the library is.
  *
- * THE NUMBER. Each answer but phf_part has a field `number`, and that of phf_choose_... is the number itself: PHF_DONE if
- * the call did its work, else the number of the first cause of enum phf_number that holds, of those that the call tries.
- * Fields of an answer that have no value are 0.
+ * THE NUMBER. Each answer but phf_part has a field `number`, and those of phf_bounds_from_p and phf_choose_... are the
+ * number itself: PHF_DONE if the call did its work, else the number of the first cause of enum phf_number that holds, of
+ * those that the call tries. Fields of an answer that have no value are 0.
  *
  * BUFFERS. A declined call leaves every buffer as it was. A call that did its work writes its outputs from their start, as
  * far as is said there, and leaves what lies beyond, and all inputs, as they were.
@@ -84,8 +85,8 @@ extern "C" {
  * others may be added: MINOR rises then. PATCH rises when all of these stay as they are.
  */
 #define PHF_VERSION_MAJOR 0
-#define PHF_VERSION_MINOR 12
-#define PHF_VERSION_PATCH 1
+#define PHF_VERSION_MINOR 13
+#define PHF_VERSION_PATCH 0
 
 /* The largest sizes: peptides, leaves, regions, and bytes of a family file. */
 #define PHF_MOST_PEPTIDES 4096
@@ -137,7 +138,13 @@ enum phf_number {
     /* a p-value is not a number or outside 0 to 1, or a fold is not finite */
     PHF_BAD_ROW = 18,
     /* a cut or the fold of the rule is not a number, or that fold is under 0 (-0.0 is not) */
-    PHF_BAD_RULE = 19
+    PHF_BAD_RULE = 19,
+    /* the p-values in millionths are not m numbers */
+    PHF_BAD_P_VALUES_LENGTH = 20,
+    /* a p-value in millionths is over 1000000 */
+    PHF_BAD_P_VALUE = 21,
+    /* deviation_squared is over 100000000 */
+    PHF_BAD_DEVIATION = 22
 };
 
 /* What phf_same adds to a number of its second file: PHF_OF_SECOND_FILE + PHF_BAD_LAYOUT is 105. */
@@ -165,6 +172,26 @@ typedef struct phf_part {
 } phf_part;
 
 phf_part phf_regions(const uint8_t *file, size_t file_len);
+
+/*
+ * The family with z computed from p-values. The answer is the number. Causes 1 to 10, 16, 20, 21, 22, in this order.
+ *
+ * p:                 m p-values in whole millionths, 0 to 1000000; p[i] is that of peptide i + 1.
+ * deviation_squared: half the natural logarithm of one over the risk level of a region's z, in millionths, rounded up:
+ *                    1497867 for the level 0.05. The level is that of each region by itself.
+ * out:               at least as long as the family file. Its first file_len bytes become the file with the same m, leaves
+ *                    and ranges and, in each region, the new z, and the rest is unchanged. The z of the given file are not
+ *                    used.
+ *
+ * The z of a region with n peptides is the largest v from 0 to n that passes at the threshold 0 and at each p-value of the
+ * region under 1000000. With t for the threshold and over for the number of the region's p-values above it, the excess of v
+ * is v * (1000000 - t) - 1000000 * over. There v passes if the excess is 0 or negative, or if its square is at most
+ * deviation_squared * v * 1000000.
+ */
+uint16_t phf_bounds_from_p(const uint8_t *file, size_t file_len,
+                           const uint32_t *p, size_t p_len,
+                           uint32_t deviation_squared,
+                           uint8_t *out, size_t out_len);
 
 /*
  * How many of the selected peptides can be false at most: `bound` is the largest count of selected peptides in any set

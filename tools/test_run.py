@@ -142,6 +142,12 @@ class Shown(unittest.TestCase):
         lines += ["1 3 1 1", "2 4 2 1", "3 1 2 0", "4 9 3 1", "5 8 3 0", "6 5 4 1", "7 6 4 0", "8 2 4 0", "9 7 4 0"]
         self.shows(run(ROOT, ROOT / "examples/unmeasured-protein"), "".join(line + "\n" for line in lines).encode())
 
+    def test_the_example_with_z_from_p_values(self):
+        # its family.txt has the bounds
+        lines = ["t peptide bound mark", "0 0 0 0"]
+        lines += ["1 8 1 1", "2 7 1 0", "3 3 2 1", "4 4 3 1", "5 1 4 1", "6 6 4 0", "7 2 5 1", "8 5 5 0"]
+        self.shows(run(ROOT, ROOT / "examples/from-p-values"), "".join(line + "\n" for line in lines).encode())
+
     def test_more_leaves_than_peptides(self):
         # the one peptide is in leaf 2, whose region allows it; regions without a peptide forbid nothing
         most = family.family_bytes([0, 1] + [0] * 4094, [(1, 1, 0), (2, 2, 1), (3, 4096, 0)])

@@ -27,6 +27,14 @@ impl Element for u16 {
     }
 }
 
+impl Element for u32 {
+    const SENTINEL: u32 = 0xABCD_1234;
+
+    fn same(self, other: u32) -> bool {
+        self == other
+    }
+}
+
 impl Element for f64 {
     // not a number, with bits of its own behind that: no call would write it
     const SENTINEL: f64 = f64::from_bits(0x7FF8_A5A5_A5A5_A5A5);

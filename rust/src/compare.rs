@@ -58,6 +58,24 @@ pub fn check(file: &[u8]) -> u16 {
     answer.number
 }
 
+/// The bounds from p-values into `room` places; the number.
+pub fn bounds_from_p(file: &[u8], p_values: &[u32], deviation_squared: u32, room: usize) -> u16 {
+    let before = before_u8(room);
+    let mut out = before.clone();
+    let answer = guarded::bounds_from_p(file, p_values, deviation_squared, &mut out);
+    match reference::bounds_from_p(file, p_values, deviation_squared, room) {
+        Ok(family) => {
+            assert_eq!(answer, 0);
+            assert_eq!(out, with_front(&reference::file_of(&family), &before));
+        }
+        Err(number) => {
+            assert_eq!(answer, number);
+            assert_eq!(out, before);
+        }
+    }
+    answer
+}
+
 /// The bound with `room` places for taken bytes; the number.
 pub fn bound(file: &[u8], selection: &[u8], room: usize) -> u16 {
     let before = before_u8(room);

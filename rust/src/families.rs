@@ -219,6 +219,14 @@ pub fn chain(n: usize, depth: usize, z: u16) -> Family {
     }
 }
 
+/// `depth` regions nested in each other, each with all 4,096 peptides: these are in the first of 64 leaves.
+pub fn chain_over_one_leaf(depth: usize, z: u16) -> Family {
+    let mut chain = chain(64, depth, z);
+    chain.lengths = all_but_one_empty(64, 1, 4096);
+    chain.peptides = 4096;
+    chain
+}
+
 // Files broken at one place.
 
 fn put(file: &mut [u8], at: usize, number: usize) {
@@ -329,6 +337,12 @@ pub fn eight_peptides() -> Family {
         &[(1, 2, 3), (1, 1, 2), (2, 2, 1), (3, 4, 3), (4, 4, 0)],
     )
 }
+
+/// p-values of these, in millionths.
+pub const EIGHT_P_VALUES: [u32; 8] = [1_000, 500_000, 20, 300, 900_000, 40_000, 10, 5];
+
+/// Half the natural logarithm of 1/0.05, 1.4978661.., in millionths, rounded up.
+pub const DEVIATION_SQUARED: u32 = 1_497_867;
 
 /// A family from its leaf lengths and its regions.
 pub fn family(lengths: &[u16], regions: &[(u16, u16, u16)]) -> Family {

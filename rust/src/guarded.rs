@@ -14,6 +14,24 @@ pub fn regions(file: &[u8]) -> Part {
     reading(file, phf::regions)
 }
 
+pub fn bounds_from_p(file: &[u8], p_values: &[u32], deviation_squared: u32, out: &mut [u8]) -> u16 {
+    reading(file, |file| {
+        reading(p_values, |p| {
+            writing(out, |out| {
+                phf::bounds_from_p(file, p, deviation_squared, out)
+            })
+        })
+    })
+}
+
+/// The file with the z from accepted p-values, in a room just as long as that.
+pub fn from_p(file: &[u8], p_values: &[u32], deviation_squared: u32) -> Vec<u8> {
+    let mut out = vec![0xEE; file.len()];
+    let number = bounds_from_p(file, p_values, deviation_squared, &mut out);
+    assert_eq!(number, 0);
+    out
+}
+
 pub fn bound(file: &[u8], selection: &[u8], taken: &mut [u8]) -> Bounded {
     reading(file, |file| {
         reading(selection, |selection| {

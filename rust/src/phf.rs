@@ -56,6 +56,15 @@ pub struct Compared {
 extern "C" {
     fn phf_check(file: *const u8, file_len: usize) -> Checked;
     fn phf_regions(file: *const u8, file_len: usize) -> Part;
+    fn phf_bounds_from_p(
+        file: *const u8,
+        file_len: usize,
+        p: *const u32,
+        p_len: usize,
+        deviation_squared: u32,
+        out: *mut u8,
+        out_len: usize,
+    ) -> u16;
     fn phf_bound(
         file: *const u8,
         file_len: usize,
@@ -132,6 +141,20 @@ pub fn check(file: &[u8]) -> Checked {
 
 pub fn regions(file: &[u8]) -> Part {
     unsafe { phf_regions(file.as_ptr(), file.len()) }
+}
+
+pub fn bounds_from_p(file: &[u8], p_values: &[u32], deviation_squared: u32, out: &mut [u8]) -> u16 {
+    unsafe {
+        phf_bounds_from_p(
+            file.as_ptr(),
+            file.len(),
+            p_values.as_ptr(),
+            p_values.len(),
+            deviation_squared,
+            out.as_mut_ptr(),
+            out.len(),
+        )
+    }
 }
 
 pub fn bound(file: &[u8], selection: &[u8], taken: &mut [u8]) -> Bounded {

@@ -50,6 +50,17 @@ impl Random {
     pub fn selection(&mut self, m: usize, part: usize, whole: usize) -> Vec<u8> {
         (0..m).map(|_| self.chance(part, whole) as u8).collect()
     }
+
+    /// m p-values in millionths, of which about `part` in `whole` are at most 1,000, the others anywhere.
+    pub fn p_values(&mut self, m: usize, part: usize, whole: usize) -> Vec<u32> {
+        let most = [1_000_000, 1_000];
+        (0..m)
+            .map(|_| {
+                let small = self.chance(part, whole) as usize;
+                self.between(0, most[small]) as u32
+            })
+            .collect()
+    }
 }
 
 struct Running {

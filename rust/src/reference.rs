@@ -583,3 +583,63 @@ pub fn choose(
         .collect::<Option<Vec<u8>>>()
         .ok_or(19)
 }
+
+// The bounds from p-values: causes 1 to 10, 16 and 20 to 22.
+
+/// 1 in millionths.
+const MILLION: i128 = 1_000_000;
+
+/// Whether v passes at a threshold with this gap and so many p-values over it.
+fn passes_at(deviation_squared: u32, gap: i128, over: i128, v: i128) -> bool {
+    let excess = v * gap - MILLION * over;
+    excess <= 0 || excess * excess <= deviation_squared as i128 * v * MILLION
+}
+
+/// The largest v from 0 to the number of p-values that passes at 0 and at each p-value under 1,000,000.
+pub fn z_of(deviation_squared: u32, p_values: &[u32]) -> u16 {
+    let under = p_values.iter().copied().filter(|p| *p < 1_000_000);
+    let thresholds: Vec<(i128, i128)> = std::iter::once(0)
+        .chain(under)
+        .map(|t| {
+            let over = p_values.iter().filter(|p| **p > t).count();
+            (MILLION - t as i128, over as i128)
+        })
+        .collect();
+    let passes = |v: &i128| {
+        thresholds
+            .iter()
+            .all(|(gap, over)| passes_at(deviation_squared, *gap, *over, *v))
+    };
+    (0..=p_values.len() as i128).rev().find(passes).unwrap() as u16
+}
+
+/// The given leaves and ranges with the z from the p-values.
+pub fn with_z_from(family: &Family, p_values: &[u32], deviation_squared: u32) -> Family {
+    let mut new = family.clone();
+    for (region, piece) in new.regions.iter_mut().zip(pieces(family)) {
+        region.z = z_of(deviation_squared, &p_values[piece.low - 1..piece.high]);
+    }
+    new
+}
+
+pub fn bounds_from_p(
+    file: &[u8],
+    p_values: &[u32],
+    deviation_squared: u32,
+    room: usize,
+) -> Result<Family, u16> {
+    let family = check(file)?;
+    if room < file.len() {
+        return Err(16);
+    }
+    if p_values.len() != family.peptides as usize {
+        return Err(20);
+    }
+    if p_values.iter().any(|p| *p > 1_000_000) {
+        return Err(21);
+    }
+    if deviation_squared > 100_000_000 {
+        return Err(22);
+    }
+    Ok(with_z_from(&family, p_values, deviation_squared))
+}

@@ -1,6 +1,7 @@
 //! A stack of a given size for a call, with memory below it that may not be touched, and how much of it the call has used.
 //! For the processor that the library is built for, x86-64 under Linux.
 
+use crate::families::DEVIATION_SQUARED;
 use crate::phf;
 use std::arch::asm;
 use std::ffi::c_void;
@@ -113,7 +114,8 @@ pub struct Call<'a> {
     pub make: Box<dyn FnMut() -> u16 + 'a>,
 }
 
-/// Every call of the library with one family and one path; everything is selected, and the choices are of 4,096 rows.
+/// Every call of the library with one family and one path; everything is selected, the p-values rise from 0, and the choices are
+/// of 4,096 rows.
 pub fn every_call<'a>(file: &'a [u8], path: &'a [u16]) -> Vec<Call<'a>> {
     let m = usize::from(u16::from_le_bytes([file[4], file[5]]));
     let (mut values, mut marks) = (vec![0; 4097], vec![0; 4096]);
@@ -126,6 +128,13 @@ pub fn every_call<'a>(file: &'a [u8], path: &'a [u16]) -> Vec<Call<'a>> {
     add("phf_check", 28, Box::new(|| phf::check(file).number));
     let empty = |file| (phf::regions(file).length == 0) as u16;
     add("phf_regions", 28, Box::new(move || empty(file)));
+    let p_values: Vec<u32> = (0..m as u32).map(|i| 240 * i).collect();
+    let mut bounded = out.clone();
+    add(
+        "phf_bounds_from_p",
+        100,
+        Box::new(move || phf::bounds_from_p(file, &p_values, DEVIATION_SQUARED, &mut bounded)),
+    );
     add(
         "phf_bound",
         32,

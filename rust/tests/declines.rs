@@ -3,6 +3,7 @@
 use phf_tests::compare;
 use phf_tests::families::{
     all_but_one_empty, chain, damage, eight_peptides, family, file, random_family, DAMAGES,
+    DEVIATION_SQUARED,
 };
 use phf_tests::random::{cases, Random};
 use phf_tests::reference::{file_of, Family};
@@ -241,6 +242,12 @@ fn cause_16_outputs() {
     let loose = file(&[3], &[(1, 1, 5)]);
     assert_eq!(compare::reduce(&loose, loose.len() - 1), 16);
     assert_eq!(compare::reduce(&loose, 18), 16);
+    let p_values = [40_000; 3];
+    assert_eq!(compare::bounds_from_p(&loose, &p_values, 0, loose.len()), 0);
+    assert_eq!(
+        compare::bounds_from_p(&loose, &p_values, 0, loose.len() - 1),
+        16
+    );
 }
 
 #[test]
@@ -298,6 +305,11 @@ fn damaged_files() {
         let selection = random.selection(m, 1, 2);
         note(&seen, compare::bound(&file, &selection, 300));
         note(&seen, compare::reduce(&file, 2000));
+        let p_values = random.p_values(m, 1, 2);
+        note(
+            &seen,
+            compare::bounds_from_p(&file, &p_values, DEVIATION_SQUARED, 2000),
+        );
         note(&seen, compare::same(&file, &whole).0);
         note(&seen, compare::same(&whole, &file).0);
         note(&seen, compare::same(&eight, &file).0);
@@ -308,7 +320,7 @@ fn damaged_files() {
     }
 }
 
-/// Whole files with bad paths, selections, fractions and outputs, also several at once.
+/// Whole files with bad paths, selections, fractions, p-values and outputs, also several at once.
 #[test]
 fn damaged_inputs() {
     let seen = Seen::default();
@@ -352,8 +364,25 @@ fn damaged_inputs() {
         note(&seen, compare::bound(&file, &selection, room));
         let room = (file.len() + 1).saturating_sub(random.below(3));
         note(&seen, compare::reduce(&file, room));
+        let mut p_values = random.p_values(m, 1, 2);
+        match random.below(6) {
+            0 => {
+                p_values.pop();
+            }
+            1 => p_values.push(1_000_001),
+            2 => {
+                let at = random.below(m);
+                p_values[at] = random.between(1_000_000, 1_000_001) as u32;
+            }
+            _ => {}
+        }
+        let constant = random.between(99_999_999, 100_000_001) as u32;
+        note(
+            &seen,
+            compare::bounds_from_p(&file, &p_values, constant, room),
+        );
     });
-    for number in [0, 11, 12, 13, 14, 15, 16] {
+    for number in [0, 11, 12, 13, 14, 15, 16, 20, 21, 22] {
         let times = seen.borrow().get(&number).copied().unwrap_or(0);
         assert!(times >= 20, "number {number} was seen {times} times");
     }
@@ -371,5 +400,6 @@ fn random_bytes() {
         compare::check(&file);
         compare::curve(&file, &[1, 2], 3, 2);
         compare::bound(&file, &[1, 0, 1], 9);
+        compare::bounds_from_p(&file, &[5, 0, 1_000_000], DEVIATION_SQUARED, 130);
     });
 }

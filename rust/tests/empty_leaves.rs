@@ -4,6 +4,7 @@
 use phf_tests::compare;
 use phf_tests::families::{
     all_but_one_empty, binary_tree_on, eight_peptides, file, random_family, Bounds,
+    DEVIATION_SQUARED,
 };
 use phf_tests::guarded::{self, curve_of, reduced};
 use phf_tests::phf;
@@ -37,6 +38,11 @@ fn all_calls(file: &[u8]) {
     assert_eq!(compare::cut(file, &path, 1, 2), 0);
     assert_eq!(compare::reduce(file, file.len()), 0);
     assert_eq!(compare::same(file, &reduced(file)), (0, 1));
+    let p_values: Vec<u32> = path.iter().map(|p| 200 * *p as u32).collect();
+    assert_eq!(
+        compare::bounds_from_p(file, &p_values, DEVIATION_SQUARED, file.len()),
+        0
+    );
 }
 
 #[test]

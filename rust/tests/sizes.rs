@@ -3,7 +3,7 @@
 use phf_tests::compare;
 use phf_tests::families::{
     all_but_one_empty, binary_tree, binary_tree_on, chain, deepest_tree, random_family, towers,
-    Bounds,
+    Bounds, DEVIATION_SQUARED,
 };
 use phf_tests::random::{cases, Random};
 use phf_tests::reference::{file_of, Family};
@@ -28,6 +28,12 @@ fn all_calls(random: &mut Random, family: &Family) {
     let a = random.between(0, b as usize) as u16;
     assert_eq!(compare::cut(&file, &path, a, b), 0);
     assert_eq!(compare::reduce(&file, file.len() + random.below(3)), 0);
+    let p_values = random.p_values(m, part, 10);
+    let room = file.len() + random.below(3);
+    assert_eq!(
+        compare::bounds_from_p(&file, &p_values, DEVIATION_SQUARED, room),
+        0
+    );
 }
 
 #[test]

@@ -58,7 +58,7 @@ fn on_its_stack(name: &str, mut call: impl FnMut() -> u16) -> u16 {
     Stack::new(stated).run(&mut call)
 }
 
-/// Declined calls need no more, here by the causes that are found last: 10 and, of a comparison, 110; 13; 14, 15 and 16.
+/// Declined calls need no more, here by the causes that are found last: 10 and, of a comparison, 110; 13; 14, 15 and 16; 20 to 22.
 #[test]
 fn declined_calls_on_the_same_stack() {
     let good = file_of(&deepest_tree(&mut Random::new(11), Bounds::Mixed));
@@ -97,6 +97,19 @@ fn declined_calls_on_the_same_stack() {
         let number = on_its_stack("phf_reduce", || phf::reduce(file, &mut out[..room]).number);
         assert_eq!(number, expected);
     }
+    let p_values = [vec![0; 4096], vec![0; 4095], vec![1_000_001; 4096]];
+    for (file, room, p_values, constant, expected) in [
+        (&deep, 57354, &p_values[0], 0, 10),
+        (&good, good.len() - 1, &p_values[0], 0, 16),
+        (&good, 57354, &p_values[1], 0, 20),
+        (&good, 57354, &p_values[2], 0, 21),
+        (&good, 57354, &p_values[0], 100_000_001, 22),
+    ] {
+        let number = on_its_stack("phf_bounds_from_p", || {
+            phf::bounds_from_p(file, p_values, constant, &mut out[..room])
+        });
+        assert_eq!(number, expected);
+    }
     for (first, second, expected) in [(&deep, &good, 10), (&good, &deep, 110)] {
         let number = on_its_stack("phf_same", || phf::same(first, second).number);
         assert_eq!(number, expected);
@@ -110,7 +123,7 @@ fn the_header_states_what_the_calls_use() {
     let header = include_str!("../../include/phf.h");
     let (_, table) = header.split_once(" * STACK.").unwrap();
     let (table, _) = table.split_once("\n *\n").unwrap();
-    let mut most = [0; 10];
+    let mut most = [0; 11];
     for family in families() {
         let path = Random::new(10).order(family.peptides as usize);
         let file = file_of(&family);
@@ -121,7 +134,8 @@ fn the_header_states_what_the_calls_use() {
     let (file, path) = (file_of(&eight_peptides()), [1]);
     for (k, call) in every_call(&file, &path).iter().enumerate() {
         assert_eq!(call.stated, (most[k] + 1024).next_multiple_of(4096));
-        let line = table.lines().find(|line| line.contains(call.name));
+        let names = |line: &&str| line.split([' ', ',']).any(|word| word == call.name);
+        let line = table.lines().find(names);
         let stated = format!(" {} KB", call.stated / 1024);
         assert!(line.unwrap().ends_with(&stated), "{}", call.name);
     }

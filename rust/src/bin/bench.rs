@@ -2,8 +2,8 @@
 //! one run. Prints the tables of docs/PERFORMANCE.md. Before anything is measured the two must answer the same.
 
 use phf_tests::families::{
-    all_but_one_empty, binary_tree, binary_tree_on, chain, deepest_tree, eight_peptides, family,
-    has_empty_leaf, towers, Bounds,
+    all_but_one_empty, binary_tree, binary_tree_on, chain, chain_over_one_leaf, deepest_tree,
+    eight_peptides, family, has_empty_leaf, towers, Bounds, DEVIATION_SQUARED, EIGHT_P_VALUES,
 };
 use phf_tests::random::Random;
 use phf_tests::reference::{check, file_of, Family, Region, Rule};
@@ -622,6 +622,128 @@ fn selections_table() -> bool {
     all_met
 }
 
+/// A family whose z are computed from p-values.
+struct FromP {
+    name: String,
+    file: Vec<u8>,
+    p_values: Vec<u32>,
+}
+
+impl FromP {
+    fn new(name: &str, family: &Family, p_values: Vec<u32>) -> FromP {
+        FromP {
+            name: name.to_string(),
+            file: file_of(family),
+            p_values,
+        }
+    }
+
+    fn regions(&self) -> usize {
+        u16::from_le_bytes([self.file[8], self.file[9]]) as usize
+    }
+
+    fn library(&self, out: &mut [u8]) -> u16 {
+        phf::bounds_from_p(&self.file, &self.p_values, DEVIATION_SQUARED, out)
+    }
+
+    fn rust(&self, out: &mut [u8]) -> u16 {
+        fast::bounds_from_p(&self.file, &self.p_values, DEVIATION_SQUARED, out)
+    }
+
+    /// Both write the same, and leave what lies beyond.
+    fn agree(&self) {
+        let (mut one, mut other) = (vec![9; 57_400], vec![9; 57_400]);
+        assert_eq!(self.library(&mut one), 0);
+        assert_eq!(self.rust(&mut other), 0);
+        assert_eq!(one, other);
+    }
+
+    /// Measures both, and prints a row that begins with these cells; the ratio.
+    fn row(&self, cells: &str) -> f64 {
+        self.agree();
+        let (mut one, mut other) = (vec![0; 57_354], vec![0; 57_354]);
+        let found = measure(&mut [
+            &mut || {
+                black_box(black_box(self).library(&mut one));
+            },
+            &mut || {
+                black_box(black_box(self).rust(&mut other));
+            },
+        ]);
+        let ratio = found[0] / found[1];
+        println!(
+            "| {cells} | {} | {} | {ratio:.2}{} |",
+            micro(found[0]),
+            micro(found[1]),
+            if ratio <= 1.5 { "" } else { " over 1.5" }
+        );
+        ratio
+    }
+}
+
+fn from_p_inputs() -> Vec<FromP> {
+    let random = &mut Random::new(10);
+    let source = binary_tree(random, 512, 8, Bounds::Mixed);
+    let largest = binary_tree(random, 4096, 1, Bounds::Mixed);
+    let any = random.p_values(4096, 0, 1);
+    let half_small = random.p_values(4096, 1, 2);
+    // 21 different ones
+    let ties = any.iter().map(|p| p / 50_000 * 50_000).collect();
+    vec![
+        FromP::new("course, m = 8", &eight_peptides(), EIGHT_P_VALUES.to_vec()),
+        FromP::new("source, random", &source, any.clone()),
+        FromP::new("source, half of them small", &source, half_small.clone()),
+        FromP::new("source, many equal", &source, ties),
+        FromP::new("source, all 0", &source, vec![0; 4096]),
+        FromP::new("largest, random", &largest, any.clone()),
+        FromP::new("largest, half of them small", &largest, half_small.clone()),
+        FromP::new(
+            "64 nested over all on 64 leaves, random",
+            &chain_over_one_leaf(64, 0),
+            any.clone(),
+        ),
+        FromP::new(
+            "64 nested over all on 64 leaves, half of them small",
+            &chain_over_one_leaf(64, 0),
+            half_small,
+        ),
+        FromP::new(
+            "64 nested over all on 4,096 leaves, random",
+            &chain(4096, 64, 0),
+            any,
+        ),
+    ]
+}
+
+fn from_p_table() -> bool {
+    println!("| family, p-values | m | K | library µs | Rust µs | ratio |");
+    println!("|---|---|---|---|---|---|");
+    let mut all_met = true;
+    for input in from_p_inputs() {
+        let m = input.p_values.len();
+        let ratio = input.row(&format!("{} | {m} | {}", input.name, input.regions()));
+        all_met &= ratio <= 1.5;
+    }
+    all_met
+}
+
+/// How the times grow with one size while the others stay.
+fn from_p_growth_table() {
+    println!("| grows | value | library µs | Rust µs | ratio |");
+    println!("|---|---|---|---|---|");
+    let random = &mut Random::new(11);
+    for m in [256, 512, 1024, 2048, 4096] {
+        let family = binary_tree(random, 64, m / 64, Bounds::Mixed);
+        let input = FromP::new("", &family, random.p_values(m, 1, 2));
+        input.row(&format!("m (N = 64, K = 127) | {m}"));
+    }
+    for depth in [1, 4, 16, 64] {
+        let p_values = random.p_values(4096, 1, 2);
+        let input = FromP::new("", &chain_over_one_leaf(depth, 0), p_values);
+        input.row(&format!("depth (m = 4,096, N = 64, K = depth) | {depth}"));
+    }
+}
+
 /// The stack that each call needs: the most of several large families.
 fn stack_table() {
     println!("| call | bytes of stack used | KB stated |");
@@ -653,7 +775,11 @@ fn main() {
     println!("### Calls\n");
     let calls_met = calls_table();
     println!("\n### Selections\n");
-    let met = selections_table() && calls_met;
+    let selections_met = selections_table();
+    println!("\n### Bounds from p-values\n");
+    let met = from_p_table() && selections_met && calls_met;
+    println!();
+    from_p_growth_table();
     println!("\n### The walk\n");
     walk_table();
     println!("\n### The experiment of the source\n");

@@ -1,7 +1,7 @@
 /*
  * The eight-peptide family from C: every call, what it writes, and every number by its name. The expected values are those
- * of the scope document. Then a family with leaves without a peptide, and peptides chosen by their rows, whose values are
- * derived beside them.
+ * of the scope document. Then a family with leaves without a peptide, peptides chosen by their rows, and bounds from p-values,
+ * whose values are derived beside them.
  * Compiled as C99 and as C++11. Prints `ok`, or the first line that does not hold.
  */
 #include <math.h>
@@ -270,6 +270,60 @@ static void choose_declines(void)
     HOLDS(out[0] == 77 && out[1] == 77 && out[2] == 77 && out[3] == 77);
 }
 
+/* The p-values of the eight peptides in millionths, from which z is computed. */
+static const uint32_t millionths[8] = {1000, 500000, 20, 300, 900000, 40000, 10, 5};
+
+/* Whether these z come from the p-values, and all else of the file and of the output stays. */
+static int gives(uint32_t deviation_squared, int z0, int z1, int z2, int z3, int z4)
+{
+    const int z[5] = {z0, z1, z2, z3, z4};
+    uint8_t expected[55];
+    uint8_t out[55];
+    int i;
+    memset(out, 77, sizeof out);
+    memcpy(expected, eight, sizeof eight);
+    expected[54] = 77;
+    for (i = 0; i < 5; i++)
+        expected[28 + 6 * i] = (uint8_t)z[i];
+    return phf_bounds_from_p(eight, sizeof eight, millionths, 8, deviation_squared, out, 55) == PHF_DONE
+        && memcmp(out, expected, sizeof out) == 0;
+}
+
+static void bounds_from_p(void)
+{
+    uint8_t given[sizeof eight];
+    uint8_t out[sizeof eight];
+    /* at a region's largest p-value, under 1000000, none is over */
+    HOLDS(gives(0, 0, 0, 0, 0, 0));
+    /* in the first region two are over 1000: 2 has no excess there, and 3 has 997000 */
+    HOLDS(gives(100000, 2, 0, 1, 0, 0));
+    /* in the second region 1 has the excess 500000 at 500000, whose square is 250000 * 1000000 */
+    HOLDS(gives(249999, 2, 0, 1, 0, 0));
+    HOLDS(gives(250000, 2, 1, 1, 0, 0));
+    /* at 1000, 4 has the excess 1996000 and 5 has 2995000; at 40000, in the fourth region, 1 has 960000 and 2 has 1920000 */
+    HOLDS(gives(1497866, 4, 2, 3, 1, 1));
+    /* a z that it wrote is not used either */
+    HOLDS(phf_bounds_from_p(eight, sizeof eight, millionths, 8, 250000, given, sizeof given) == PHF_DONE);
+    HOLDS(phf_bounds_from_p(given, sizeof given, millionths, 8, 250000, out, sizeof out) == PHF_DONE);
+    HOLDS(memcmp(out, given, sizeof out) == 0);
+}
+
+static void bounds_from_p_declines(void)
+{
+    const uint32_t over[8] = {0, 0, 0, 0, 0, 0, 0, 1000001};
+    uint8_t out[sizeof eight];
+    memset(out, 77, sizeof out);
+    HOLDS(phf_bounds_from_p(NULL, 0, NULL, 0, 0, NULL, 0) == PHF_NOT_A_FAMILY_FILE);
+    HOLDS(phf_bounds_from_p(eight, 53, over, 7, 100000001, out, 0) == PHF_BAD_LAYOUT);
+    HOLDS(phf_bounds_from_p(eight, 54, over, 7, 100000001, out, 53) == PHF_SHORT_OUTPUT);
+    HOLDS(phf_bounds_from_p(eight, 54, NULL, 0, 100000001, out, 54) == PHF_BAD_P_VALUES_LENGTH);
+    HOLDS(phf_bounds_from_p(eight, 54, over, 7, 100000001, out, 54) == PHF_BAD_P_VALUES_LENGTH);
+    HOLDS(phf_bounds_from_p(eight, 54, over, 8, 100000001, out, 54) == PHF_BAD_P_VALUE);
+    HOLDS(phf_bounds_from_p(eight, 54, millionths, 8, 100000001, out, 54) == PHF_BAD_DEVIATION);
+    HOLDS(out[0] == 77 && out[28] == 77 && out[53] == 77);
+    HOLDS(phf_bounds_from_p(eight, 54, millionths, 8, 100000000, out, 54) == PHF_DONE);
+}
+
 static void put(uint8_t *file, size_t at, size_t number)
 {
     file[at] = (uint8_t)(number & 255);
@@ -362,6 +416,8 @@ int main(void)
     reduce_and_same_unmeasured();
     choose();
     choose_declines();
+    bounds_from_p();
+    bounds_from_p_declines();
     numbers_of_files();
     numbers_of_other_inputs();
     if (failures == 0)
