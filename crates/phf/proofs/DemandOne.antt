@@ -2,7 +2,7 @@
 -- it does its work. Over all inputs, and over what each call answers and leaves by its promise. A slice that is lent to be read cannot
 -- be written, so only those that are lent for outputs are named; that every call ends is part of the proof of each function.
 -- It speaks of every call that has causes. Those of reader that answer a total definition of any bytes (`leaf_of`, `leaf_length`,
--- `region_of`, the counts, `number_at`, `same_bytes`, `smaller`) have none, nor has `passes` of volcano; the program's text has a theorem of
+-- `peptides_between`, `region_of`, the counts, `number_at`, `put_number`, `same_bytes`, `smaller`) have none, nor has `passes` of volcano; the program's text has a theorem of
 -- its own (`program-theorem`).
 use Prim.Native.Nat.{ℕ, _+_, _*_}
 use mathlib.Core.Bool.{cond}
@@ -39,6 +39,7 @@ use Rattle.reduction.specs.declared.ReducedFile.{ReducedFile}
 use Rattle.reduction.specs.declared.ReducedFile.the-variants as made
 use Rattle.reduction.specs.declared.Compared.{Compared}
 use Rattle.reduction.specs.declared.Compared.the-variants as compared
+use Rattle.pvalues.specs.Calls.{fromPInputs, fromPCauses, fileFromP, FromPAnswers, FromPWrites}
 use Rattle.volcano.specs.Rules.{chosen}
 use Rattle.volcano.specs.Calls.{chooseCauses, ChooseAnswers, ChooseWrites}
 use Rattle.volcano.specs.declared.Rule.{Rule}
@@ -71,6 +72,7 @@ pub record DemandOne : Type 0 where
   pub cut-tries : (file path : List ℕ) (a b : ℕ) → numbers (cutCauses file path a b) ≡ 1 ∷ 2 ∷ 3 ∷ 4 ∷ 5 ∷ 6 ∷ 7 ∷ 8 ∷ 9 ∷ 10 ∷ 11 ∷ 12 ∷ 13 ∷ 15 ∷ []
   pub reduce-tries : (file out : List ℕ) → numbers (reduceCauses file out) ≡ 1 ∷ 2 ∷ 3 ∷ 4 ∷ 5 ∷ 6 ∷ 7 ∷ 8 ∷ 9 ∷ 10 ∷ 16 ∷ []
   pub same-tries : (first second : List ℕ) → numbers (compareCauses first second) ≡ 1 ∷ 2 ∷ 3 ∷ 4 ∷ 5 ∷ 6 ∷ 7 ∷ 8 ∷ 9 ∷ 10 ∷ 101 ∷ 102 ∷ 103 ∷ 104 ∷ 105 ∷ 106 ∷ 107 ∷ 108 ∷ 109 ∷ 110 ∷ []
+  pub bounds-from-p-tries : (file ps : List ℕ) (deviationSquared room : ℕ) → numbers (fromPCauses file ps deviationSquared room) ≡ 1 ∷ 2 ∷ 3 ∷ 4 ∷ 5 ∷ 6 ∷ 7 ∷ 8 ∷ 9 ∷ 10 ∷ 16 ∷ 20 ∷ 21 ∷ 22 ∷ []
   -- The calls of C. For each, after its promises: its causes; its answer, the refusal with the number n, the answer of its work; its lent
   -- lists after the call, before it, and with its work.
   pub phf-check : (file : List ℕ) (r : PhfChecked) → PhfCheckAnswers file r
@@ -103,6 +105,8 @@ pub record DemandOne : Type 0 where
       → Obeys (compareCauses first second)
       r (λ n. record { number = n; same = 0 }) (record { number = 0; same = cond (sameList (reducedFile first) (reducedFile second)) 1 0 })
       [] [] []
+  pub phf-bounds-from-p : (file ps : List ℕ) (deviationSquared : ℕ) (out new : List ℕ) (r : ℕ) → FromPAnswers file ps deviationSquared out r → FromPWrites file ps deviationSquared out new
+      → Obeys (fromPCauses file ps deviationSquared (length out)) r (λ n. n) 0 (new ∷ []) (out ∷ []) (atStart (fileFromP file ps deviationSquared) out ∷ [])
   -- The calls of the libraries, in the same order.
   pub check : (file : List ℕ) (r : Checked) → CheckAnswers file r
       → Obeys (fileCauses file) r told.Refused (told.Family (familyOf file .peptides) (leaves (familyOf file)) (regionCount (familyOf file))) [] [] []
@@ -136,6 +140,8 @@ pub record DemandOne : Type 0 where
       → Obeys (compareCauses first second)
       r compared.Refused (cond (sameList (reducedFile first) (reducedFile second)) compared.Same compared.Different)
       [] [] []
+  pub bounds-from-p : (file ps : List ℕ) (deviationSquared : ℕ) (out new : List ℕ) (r : ℕ) → FromPAnswers file ps deviationSquared out r → FromPWrites file ps deviationSquared out new
+      → Obeys (fromPCauses file ps deviationSquared (length out)) r (λ n. n) 0 (new ∷ []) (out ∷ []) (atStart (fileFromP file ps deviationSquared) out ∷ [])
   -- The place that comes with 13 is the first one of the path whose peptide stands earlier too; no other number is.
   pub curve-place : (file path values marks : List ℕ) → firstCause (curveCauses file path values marks) ≡ 13 → IsFirstRepeat path (firstRepeat path)
   pub cut-place : (file path : List ℕ) (a b : ℕ) → firstCause (cutCauses file path a b) ≡ 13 → IsFirstRepeat path (firstRepeat path)
@@ -169,6 +175,12 @@ module _ (file path values marks newValues newMarks : List ℕ) (v : CurveValues
 choose-obeys : (m : ℕ) (ps folds : List Float) (rule : Rule) (out new : List ℕ) (r : ℕ) → ChooseAnswers m ps folds rule out r → ChooseWrites m ps folds rule out new
     → Obeys (chooseCauses m ps folds rule (length out)) r (λ n. n) 0 (new ∷ []) (out ∷ []) (atStart (chosen rule ps folds) out ∷ [])
 choose-obeys m ps folds rule out new r h w = number-obeys (chooseCauses m ps folds rule (length out)) r _ _ _ h (lent-one _ _ out new w)
+
+-- `bounds_from_p`, and its name in C.
+
+from-p-obeys : (file ps : List ℕ) (deviationSquared : ℕ) (out new : List ℕ) (r : ℕ) → FromPAnswers file ps deviationSquared out r → FromPWrites file ps deviationSquared out new
+    → Obeys (fromPCauses file ps deviationSquared (length out)) r (λ n. n) 0 (new ∷ []) (out ∷ []) (atStart (fileFromP file ps deviationSquared) out ∷ [])
+from-p-obeys file ps deviationSquared out new r h w = number-obeys (fromPCauses file ps deviationSquared (length out)) r _ _ _ h (lent-one _ _ out new w)
 
 -- The part that holds the regions.
 
@@ -209,7 +221,7 @@ module _ (place fileAt : ℕ × ℕ) (part file : List ℕ) (h : RegionsGiven pl
   part-of-refused r = (h .bytes ∙ part-refused file r, h .part .block, omega (arith, h .part .place, start-refused file r))
 
 pub demand-one : DemandOne
-unfolding headerCauses familyCauses fileCauses parentsCauses causesWithRoom pathCauses inputCauses curveCauses cutCauses reduceCauses compareCauses chooseCauses checked checkedFields boundedFields curvedFields cuttingFields reducedFields comparedFields valueAt valueWith reducedCounts comparison checkedOf boundedOf reducedOf comparedOf curvedOf cutFoundOf
+unfolding headerCauses familyCauses fileCauses parentsCauses causesWithRoom pathCauses inputCauses curveCauses cutCauses reduceCauses compareCauses chooseCauses fromPInputs fromPCauses checked checkedFields boundedFields curvedFields cuttingFields reducedFields comparedFields valueAt valueWith reducedCounts comparison checkedOf boundedOf reducedOf comparedOf curvedOf cutFoundOf
 demand-one =
     record {
       first-cause = first-is;
@@ -222,6 +234,7 @@ demand-one =
       cut-tries = λ file path a b. refl;
       reduce-tries = λ file out. refl;
       same-tries = λ first second. refl;
+      bounds-from-p-tries = λ file ps deviationSquared room. refl;
       phf-check = λ file r h. made-obeys (fileCauses file) _ checkedFields r [] [] [] h (nothing-lent (fileCauses file));
       phf-bound = λ file selection taken new r h w. made-obeys (selectionCauses file selection taken) _ boundedFields r (new ∷ []) _ _ h (lent-one _ _ _ _ w);
       phf-choose-at-most = λ m ps folds cut. choose-obeys m ps folds (AtMost cut);
@@ -231,6 +244,7 @@ demand-one =
       phf-cut = λ file path a b r h. path-obeys _ path _ cuttingFields _ (cut-refusal-fields path) r [] [] [] h (nothing-lent _);
       phf-reduce = λ file out new r h w. made-obeys (reduceCauses file out) _ reducedFields r (new ∷ []) _ _ h (lent-one _ _ _ _ w);
       phf-same = λ first second r h. made-obeys (compareCauses first second) _ comparedFields r [] [] [] h (nothing-lent _);
+      phf-bounds-from-p = from-p-obeys;
       check = λ file r h. remade-obeys (fileCauses file) _ report checkedOf checked-remade r [] [] [] h (nothing-lent (fileCauses file));
       parents = λ file out new r h w. remade-obeys (parentsCauses file out) _ report checkedOf checked-remade r (new ∷ []) _ _ h (lent-one _ _ _ _ w);
       bound = λ file selection taken new r h w. remade-obeys (selectionCauses file selection taken) _ reportBound boundedOf bounded-remade r (new ∷ []) _ _ h (lent-one _ _ _ _ w);
@@ -240,6 +254,7 @@ demand-one =
       cut = λ file path a b r h. path-obeys _ path _ cutFoundBy _ (cut-refusal path) r [] [] [] (cut-told _ path _ r h) (nothing-lent _);
       reduce = λ file out new r h w. remade-obeys (reduceCauses file out) _ reportReduced reducedOf reduced-remade r (new ∷ []) _ _ h (lent-one _ _ _ _ w);
       same = λ first second r h. rw (← yes-or-no (sameList (reducedFile first) (reducedFile second))) (remade-obeys (compareCauses first second) _ reportCompared comparedOf compared-remade r [] [] [] h (nothing-lent _));
+      bounds-from-p = from-p-obeys;
       curve-place = λ file path values marks. place-with-13 file path _ (omega arith);
       cut-place = λ file path a b. place-with-13 file path _ (omega arith);
       only-place = only-first;

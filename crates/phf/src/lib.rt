@@ -1,6 +1,6 @@
 // The C interface: the calls of the libraries under C names, and nothing else. include/phf.h is this file as C sees it.
 // A slice is a pointer and a number of elements. An answer is a struct by value: the number of the first cause that holds,
-// 0 for none, then the values; a field that has no value is 0. That of a choice is the number alone.
+// 0 for none, then the values; a field that has no value is 0. That of a choice, and of bounds from p-values, is the number alone.
 use bounds::Bounded;
 use bounds::Curved;
 use bounds::CutFound;
@@ -9,6 +9,7 @@ use reduction::Compared;
 use reduction::ReducedFile;
 use volcano::Rule;
 ghost use Rattle.bounds.specs.Calls.{TakenWrites, CurveValuesWrites, CurveMarksWrites};
+ghost use Rattle.pvalues.specs.Calls.{FromPAnswers, FromPWrites};
 ghost use Rattle.reduction.specs.Calls.{ReduceWrites};
 ghost use Rattle.volcano.specs.Calls.{ChooseAnswers, ChooseWrites};
 ghost use Rattle.volcano.specs.declared.Rule.the-variants.{AtMost, Between, Volcano};
@@ -244,4 +245,18 @@ pub extern "C" fn phf_choose_volcano(
     ensures { λ _. ⌜ ChooseWrites m (now («p_values» .entry)) (now (folds .entry)) (Volcano cut fold) (now (out .entry)) (now (out .exit)) ⌝ }
 {
     volcano::choose(m, p_values, folds, Rule::Volcano(cut, fold), out)
+}
+
+// The file with the z from the p-values, which are whole millionths, at the start of the output.
+#[no_mangle]
+pub extern "C" fn phf_bounds_from_p(
+    file: &[u8],
+    p_values: &[u32],
+    deviation_squared: u32,
+    out: &mut [u8],
+) -> u16
+    ensures { λ r. ⌜ FromPAnswers (now (file .entry)) (now («p_values» .entry)) «deviation_squared» (now (out .entry)) r ⌝ }
+    ensures { λ _. ⌜ FromPWrites (now (file .entry)) (now («p_values» .entry)) «deviation_squared» (now (out .entry)) (now (out .exit)) ⌝ }
+{
+    pvalues::bounds_from_p(file, p_values, deviation_squared, out)
 }
