@@ -22,7 +22,7 @@
  * largest and deepest families use of this library and 1 KB more, up to the next 4 KB; measured, not proved; a test makes every
  * call on just that much):
  *     phf_check, phf_regions                                        28 KB
- *     phf_bounds_from_p                                            100 KB
+ *     phf_bounds_from_p                                             84 KB
  *     phf_bound                                                     32 KB
  *     phf_curve                                                     44 KB
  *     phf_cut                                                       48 KB

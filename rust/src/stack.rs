@@ -132,7 +132,7 @@ pub fn every_call<'a>(file: &'a [u8], path: &'a [u16]) -> Vec<Call<'a>> {
     let mut bounded = out.clone();
     add(
         "phf_bounds_from_p",
-        100,
+        84,
         Box::new(move || phf::bounds_from_p(file, &p_values, DEVIATION_SQUARED, &mut bounded)),
     );
     add(
