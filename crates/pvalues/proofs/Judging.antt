@@ -96,6 +96,12 @@ module _ (file ps : List ℕ) (deviationSquared room : ℕ) where
   unfolding fromPCauses
   first-input h = join-clear (fileCauses file) (fromPInputs file ps deviationSquared room) (file-numbered file) h
 
+  -- no cause holds
+  pub none-holds : Accepted file → length file ≤ room → cause20 (familyOf file .peptides) ps ≡ false → cause21 ps ≡ false → cause22 deviationSquared ≡ false
+      → firstCause (fromPCauses file ps deviationSquared room) ≡ 0
+  unfolding firstCause fromPInputs short
+  none-holds accepted h k l m = first-input accepted ∙ rw (le-ltb room (length file) h, k, l, m)
+
   pub judged-refused : (P : List ℕ) (n : ℕ) → n ≡ firstCause (fileCauses file) → (n ≡ 0 → ⊥) → FromPJudged file ps deviationSquared room P n
   judged-refused P n e some = record { first = e ∙ sym (first-file (λ z. some (e ∙ z))); ready = λ z. absurd (some z) }
 

@@ -12,4 +12,5 @@ pub mod LeafLaws
 pub mod ParentLaws
 pub mod Files
 pub mod NumberRows
+pub mod OtherBounds
 pub mod Examples

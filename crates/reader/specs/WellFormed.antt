@@ -32,6 +32,14 @@ pub record WellFormed (F : Family) : Type 0 where
   pub shallow : (k : ℕ) → k < regionCount F → regionsAround F k ≤ 63
   pub z-fits : (k : ℕ) → k < regionCount F → region F k .z < 65536
 
+-- The two families have the same m, the same leaf lengths and the same leaf ranges; their z may differ.
+pub record SameRanges (F G : Family) : Type 0 where
+  pub peptides : G .peptides ≡ F .peptides
+  pub lengths : G .lengths ≡ F .lengths
+  pub regions : regionCount G ≡ regionCount F
+  pub first : (k : ℕ) → k < regionCount F → region G k .first ≡ region F k .first
+  pub last : (k : ℕ) → k < regionCount F → region G k .last ≡ region F k .last
+
 -- c is the number, counted from 1, of the region just around the k-th one, or 0 where none is around it.
 -- In file order what is around a region stands before it and ends with it or later.
 pub record IsParent (F : Family) (k c : ℕ) : Type 0 where
