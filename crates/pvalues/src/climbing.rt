@@ -1,5 +1,8 @@
 // The z of all regions at once. The peptides come by rising p-value, and for each one a climb along the parents visits the regions
-// that have it.
+// that have it: there is one p-value less left in such a region, and its z is lowered while it does not pass with these over the
+// threshold. Three things need no code. At equal p-values more are left than are over the threshold, so that the test is weaker, and it
+// is exact at the last of them. At the threshold 0, where no p-value is 0, every z up to the number of peptides passes. At 1,000,000
+// the gap is 0, and every z passes.
 use crate::innermost::fill_innermost;
 use crate::lowering::lowered;
 use crate::ordering::order_by_p;
@@ -19,8 +22,7 @@ fn one_less(n: u16) -> u16
     if n == 0 { 0 } else { n - 1 }
 }
 
-// In the region of that number, and in each around it, there is one p-value less left, this one, and its z is lowered while it does
-// not pass with these over the threshold. The parent is read first, as in the walk along a path.
+// One step of it, in the region of that number and in each around it. The parent is read first, as in the walk along a path.
 fn lower_regions(
     parents: &[u16],
     left: &mut [u16],

@@ -1,8 +1,4 @@
-// The z of all regions at once. The peptides come by rising p-value, and for each one a climb along the parents visits the regions
-// that have it: there is one p-value less left in such a region, and its z is lowered while it does not pass with these over the
-// threshold. Three things need no code. At equal p-values more are left than are over the threshold, so that the test is weaker, and it
-// is exact at the last of them. At the threshold 0, where no p-value is 0, every z up to the number of peptides passes. At 1,000,000
-// the gap is 0, and every z passes.
+// Whether a number passes at a threshold, and the largest one, up to a given one, that does.
 ghost use mathlib.Core.Path.{_≡_};
 ghost use Prim.Native.Nat.{_≤_};
 ghost use Rattle.bounds.specs.Curves.{largestUpTo};

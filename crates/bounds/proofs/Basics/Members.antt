@@ -8,6 +8,7 @@
 --   Place                 where a member stands
 --   place                 every member stands somewhere
 --   in-at                 what stands at a place of the list is a member
+--   in-append             a member of two lists joined is a member of one of them
 --   Found                 what a search finds: a member that passes the test
 --   some-in, some-found   a search passes if a member does, and one that passes has found a member
 --   nowhere-facts         where `not (some t L)` passes, no member passes
@@ -22,7 +23,7 @@
 --   sum-ones              a 1 for each member adds up to the length
 use Prim.Native.Nat.{ℕ, zero, suc, _≤_, _<_}
 use mathlib.Core.Bool.{Bool, true, false, not, cond}
-use mathlib.Core.List.{List, [], _∷_}
+use mathlib.Core.List.{List, [], _∷_, _++_}
 use mathlib.Core.Logic.{_⊎_, inl, inr, ⊎-elim}
 use mathlib.Core.Path.{_≡_, refl, sym, ap}
 use native.Mathlib.Omega.{arith}
@@ -53,6 +54,11 @@ eqb-bit true = refl
 eqb-bit false = refl
 
 -- Members of a list.
+
+pub in-append : {A : Type 0} (x : A) (L M : List A) → In x (L ++ M) → In x L ⊎ In x M
+in-append x [] M i = inr i
+in-append x (y ∷ L) M (inl e) = inl (inl e)
+in-append x (y ∷ L) M (inr i) = ⊎-elim (λ j. inl (inr j)) inr (in-append x L M i)
 
 module _ {A : Type 0} where
   pub record Place (x : A) (L : List A) (d : A) : Type 0 where

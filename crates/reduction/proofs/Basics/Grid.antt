@@ -1,5 +1,4 @@
 -- Lists that go through the numbers 1 to n, or through all pairs of them: their members and their order.
---   in-append               a member of two lists joined is a member of one of them
 --   append-l, append-r      a member of either is a member of both joined
 --   At                      x stands at one of the numbers 1 to n
 --   in-rising, in-falling   what is in the list that goes through 1 to n, up or down, stands at one of these numbers
@@ -24,15 +23,10 @@ use native.Mathlib.Nat.{eq-or-lt-of-le}
 use lib.Dec.{leb}
 use borrow.Author.Tests.{leb-true, le-leb}
 use Rattle.bounds.specs.Ranges.{Range, those, In}
-use Rattle.bounds.proofs.Basics.Members.{those-in, test}
+use Rattle.bounds.proofs.Basics.Members.{in-append, those-in, test}
 use Rattle.reduction.specs.Reduction.{rising, falling, grid}
 
 -- Members.
-
-pub in-append : {A : Type 0} (x : A) (L M : List A) → In x (L ++ M) → In x L ⊎ In x M
-in-append x [] M i = inr i
-in-append x (y ∷ L) M (inl e) = inl (inl e)
-in-append x (y ∷ L) M (inr i) = ⊎-elim (λ j. inl (inr j)) (λ j. inr j) (in-append x L M i)
 
 pub append-l : {A : Type 0} (x : A) (L M : List A) → In x L → In x (L ++ M)
 append-l x (y ∷ L) M (inl e) = inl e

@@ -16,13 +16,13 @@ use Rattle.reader.proofs.Bools.{not-passes}
 use Rattle.reader.proofs.Below.{some-at, found}
 use Rattle.bounds.specs.Ranges.{Range, Peptides, rangesOf, those, In}
 use Rattle.bounds.specs.Selections.{selected}
-use Rattle.bounds.proofs.Basics.Members.{test, clash, refuted, and-l, and-r, and-both, or-l, or-r, or-either, both-ways, in-those, those-in, those-same, le-or-lt}
+use Rattle.bounds.proofs.Basics.Members.{test, clash, refuted, and-l, and-r, and-both, or-l, or-r, or-either, both-ways, in-append, in-those, those-in, those-same, le-or-lt}
 use Rattle.bounds.proofs.Theory.Family.{ranges-length}
 use Rattle.reduction.specs.Reduction.{piece, live}
 use Rattle.reduction.specs.Private.Steps.{Begins, liveBytes, reducedRanges, Listed}
 use Rattle.reduction.specs.Private.Keeping.{firstAt, lastAt, SameStretch, Keeps, KeptMarked, beginsRun, RunTo, ofFirst, withRuns, Gathered, Passed}
 use Rattle.reduction.proofs.Basics.Unless.{lt-unless}
-use Rattle.reduction.proofs.Basics.Grid.{Precedes, FileOrder, in-append, append-l, append-r, those-ordered, ordered-same}
+use Rattle.reduction.proofs.Basics.Grid.{Precedes, FileOrder, append-l, append-r, those-ordered, ordered-same}
 use Rattle.reduction.proofs.Theory.Stretches.{stretches-facts}
 use Rattle.reduction.proofs.Theory.Runs.{DeadRun, run-same, run-end}
 use Rattle.reduction.proofs.Theory.Reduced.{Written, run, kept, reduced-facts, reduced-holds, reduced-ordered}
