@@ -1,7 +1,9 @@
--- The regions that hold a leaf, and the last of them, which is the innermost one.
+-- The regions that hold a leaf, and the last of them, which is the innermost one; and how their numbers are painted over a line.
 use Prim.Native.Nat.{ℕ, suc, _<_, _≤_}
 use mathlib.Core.Bool.{Bool, true, false, _&&_}
+use mathlib.Core.List.{List}
 use mathlib.Core.Path.{_≡_}
+use lib.ListN.{length, getD}
 use lib.Dec.{leb}
 use Rattle.reader.specs.Family.{Family, regionCount, region}
 
@@ -20,3 +22,10 @@ pub record LastAmong (F : Family) (n leaf c : ℕ) : Type 0 where
 
 abbrev pub LastHolding : Family → ℕ → ℕ → Type 0
 LastHolding F leaf c = LastAmong F (regionCount F) leaf c
+
+-- the list D is T with a number written from a first place to the place before j
+pub record PaintedBefore (T : List ℕ) (first number j : ℕ) (D : List ℕ) : Type 0 where
+  pub same : length D ≡ length T
+  pub done : (i : ℕ) → first ≤ i → i < j → getD D i 0 ≡ number
+  pub below : (i : ℕ) → i < first → getD D i 0 ≡ getD T i 0
+  pub ahead : (i : ℕ) → j ≤ i → getD D i 0 ≡ getD T i 0

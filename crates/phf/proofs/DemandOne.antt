@@ -1,9 +1,9 @@
 -- Demand 1: every call with bad input gets the first cause that holds, with its number, and every lent list is unchanged; with no cause
 -- it does its work. Over all inputs, and over what each call answers and leaves by its promise. A slice that is lent to be read cannot
 -- be written, so only those that are lent for outputs are named; that every call ends is part of the proof of each function.
--- It speaks of every call that has causes. Those of reader that answer a total definition of any bytes (`leaf_of`, `leaf_length`,
--- `peptides_between`, `region_of`, the counts, `number_at`, `put_number`, `same_bytes`, `smaller`) have none, nor has `passes` of volcano; the program's text has a theorem of
--- its own (`program-theorem`).
+-- It speaks of every call that has causes. Those of reader that answer, or leave, a total definition of any bytes (`leaf_of`,
+-- `leaf_length`, `peptides_between`, `region_of`, the counts, `number_at`, `put_number`, `same_bytes`, `smaller`) have none, nor has
+-- `passes` of volcano; the program's text has a theorem of its own (`program-theorem`).
 use Prim.Native.Nat.{ℕ, _+_, _*_}
 use mathlib.Core.Bool.{cond}
 use mathlib.Core.List.{List, [], _∷_}

@@ -247,7 +247,7 @@ pub extern "C" fn phf_choose_volcano(
     volcano::choose(m, p_values, folds, Rule::Volcano(cut, fold), out)
 }
 
-// The file with the z from the p-values, which are whole millionths, at the start of the output.
+// The number of the first cause that holds; for 0 the file with the z from the p-values, whole millionths, at the start of the output.
 #[no_mangle]
 pub extern "C" fn phf_bounds_from_p(
     file: &[u8],

@@ -1,5 +1,5 @@
 -- The theorem on bounds from p-values: what `bounds_from_p` writes, over all its calls that have nothing to decline.
-use Prim.Native.Nat.{ℕ, suc, _+_, _-_, _<_, _≤_}
+use Prim.Native.Nat.{ℕ, suc, _+_, _*_, _-_, _<_, _≤_}
 use mathlib.Core.Bool.{true}
 use mathlib.Core.List.{List, _++_, map}
 use mathlib.Core.Logic.{⊎-elim}
@@ -9,13 +9,14 @@ use lib.ListN.{length, getD, take, drop, length-map}
 use lib.Seq.{take-at, drop-at, getD-take, getD-drop}
 use Rattle.reader.specs.Lists.{tabulate}
 use Rattle.reader.specs.Family.{Region, Family, familyOf, fileOf, regionCount, region, noRegion, peptidesUpTo, EmptyRegion}
+use Rattle.reader.specs.Nesting.{regionWithin}
 use Rattle.reader.specs.Causes.{firstCause, AcceptedFile}
 use Rattle.reader.specs.WellFormed.{WellFormed, SameRanges}
 use Rattle.reader.proofs.Bools.{clash}
 use Rattle.reader.proofs.Lists.{getD-tabulate, tabulate-same}
 use Rattle.reader.proofs.First.{writes}
-use Rattle.reader.proofs.Accepting.{well-formed, accepted-header, whole-length}
-use Rattle.reader.proofs.Files.{file-length, file-bytes, file-accepted, read-back}
+use Rattle.reader.proofs.Accepting.{well-formed}
+use Rattle.reader.proofs.Files.{file-bytes, file-accepted, read-back}
 use Rattle.reader.proofs.OtherBounds.{other-bounds-formed}
 use borrow.Author.Tests.{eqb-true, not-false}
 use Rattle.bounds.specs.Ranges.{rangeOf, rangeAt}
@@ -23,7 +24,7 @@ use Rattle.bounds.proofs.Basics.Members.{le-or-lt}
 use Rattle.bounds.proofs.Basics.Nesting.{has-holds}
 use Rattle.bounds.proofs.Theory.EmptyRegions.{empty-holds-none}
 use Rattle.bounds.proofs.Theory.Family.{map-tabulate}
-use Rattle.pvalues.specs.FromP.{gap, over, passesAt, zOf, IsZ, regionPValues, boundedRegion, familyFromP, cause20}
+use Rattle.pvalues.specs.FromP.{million, gap, over, passesAt, zOf, IsZ, regionPValues, boundedRegion, familyFromP, cause20}
 use Rattle.pvalues.specs.Calls.{fromPCauses, fileFromP}
 use Rattle.pvalues.specs.AcceptedCalls.{FromPCall, newFile, newFamily}
 use Rattle.pvalues.specs.Private.Lowering.{sizeAt}
@@ -31,6 +32,8 @@ use Rattle.pvalues.proofs.Judging.{none-holds}
 use Rattle.pvalues.proofs.Theory.Passing.{passes-down}
 use Rattle.pvalues.proofs.Theory.ZLaws.{z-is, z-most, z-mono, passes-everywhere}
 use Rattle.pvalues.proofs.Theory.LoweredIsZ.{region-size, size-most}
+use Rattle.pvalues.proofs.Theory.ZBetween.{z-enough, within-has, region-no-smaller}
+use Rattle.pvalues.proofs.NewFile.{from-p-length}
 
 -- The z of a region with these ends on the line of the peptides and these p-values, and where they come from.
 pub record RegionZ (F : Family) (ps : List ℕ) (deviationSquared : ℕ) (r : Region) (z : ℕ) : Type 0 where
@@ -61,6 +64,14 @@ pub record BoundsFromP : Type 0 where
   -- A larger constant gives no smaller z.
   pub larger-constant : (f : AcceptedFile) (c d : FromPCall f) → c .p-values ≡ d .p-values → c .deviation-squared ≤ d .deviation-squared
       → (k : ℕ) → k < regionCount (familyOf (f .file)) → region (newFamily f c) k .z ≤ region (newFamily f d) k .z
+  -- Raised p-values give no smaller z, so that p-values may be rounded up; nor has a region a smaller z than one inside it.
+  pub raised-p-values : (f : AcceptedFile) (c d : FromPCall f) → c .deviation-squared ≡ d .deviation-squared → ((i : ℕ) → getD (c .p-values) i 0 ≤ getD (d .p-values) i 0)
+      → (k : ℕ) → k < regionCount (familyOf (f .file)) → region (newFamily f c) k .z ≤ region (newFamily f d) k .z
+  pub region-around : (f : AcceptedFile) (c : FromPCall f) (j k : ℕ) → j < regionCount (familyOf (f .file)) → k < regionCount (familyOf (f .file))
+      → regionWithin (region (familyOf (f .file)) j) (region (familyOf (f .file)) k) ≡ true → region (newFamily f c) j .z ≤ region (newFamily f c) k .z
+  -- z is at least the constant, in whole units, where the region has so many peptides: the source says so below its (16).
+  pub constant-reached : (f : AcceptedFile) (c : FromPCall f) (k v : ℕ) → k < regionCount (familyOf (f .file)) → v ≤ rangeAt (familyOf (f .file)) k .high - rangeAt (familyOf (f .file)) k .low
+      → v * million ≤ c .deviation-squared → v ≤ region (newFamily f c) k .z
   -- The z of the given file are not used: with the same ranges and p-values and the same constant, the same file is written.
   pub given-z-unused : (f g : AcceptedFile) (c : FromPCall f) (d : FromPCall g) → SameRanges (familyOf (f .file)) (familyOf (g .file))
       → c .p-values ≡ d .p-values → c .deviation-squared ≡ d .deviation-squared → newFile f c ≡ newFile g d
@@ -148,8 +159,7 @@ module _ (f : AcceptedFile) (c : FromPCall f) where
       omega (arith, z-known k h, size-most given-formed (c .p-values) values-counted k h, given-formed .peptides-most))
 
   new-length : length (fileOf G) ≡ length (f .file)
-  new-length =
-      omega (arith, file-length G, ranges .regions, ap length (ranges .lengths), whole-length (f .file) (accepted-header (f .file) (f .accepted)))
+  new-length = unfold fileFromP in from-p-length (f .file) (c .p-values) (c .deviation-squared) (f .accepted)
 
   written-so : c .new ≡ fileOf G ++ drop (length (fileOf G)) (c .old)
   unfolding fileFromP
@@ -208,6 +218,18 @@ bounds-from-p =
           λ f c d same l k h.
           rw (family-is f c, family-is f d, from-p-z (F f c) (c .p-values) (c .deviation-squared) k h, from-p-z (F f d) (d .p-values) (d .deviation-squared) k h, same)
           (z-mono (c .deviation-squared) (d .deviation-squared) (regionPValues (F f d) (d .p-values) (region (F f d) k)) l);
+      raised-p-values =
+          λ f c d same raised k h.
+          rw (family-is f c, family-is f d, from-p-z (F f c) (c .p-values) (c .deviation-squared) k h, from-p-z (F f d) (d .p-values) (d .deviation-squared) k h, same)
+          (region-no-smaller (given-formed f c) (c .p-values) (d .p-values) (values-counted f c) (values-counted f d) raised k k h h (λ i e. e) (d .deviation-squared));
+      region-around =
+          λ f c j k l u inside.
+          rw (family-is f c, from-p-z (F f c) (c .p-values) (c .deviation-squared) j l, from-p-z (F f c) (c .p-values) (c .deviation-squared) k u)
+          (region-no-smaller (given-formed f c) (c .p-values) (c .p-values) (values-counted f c) (values-counted f c) (λ i. omega arith) j k l u (within-has (given-formed f c) j k l inside) (c .deviation-squared));
+      constant-reached =
+          λ f c k v h few enough.
+          rw (family-is f c, from-p-z (F f c) (c .p-values) (c .deviation-squared) k h)
+          (z-enough (c .deviation-squared) (regionPValues (F f c) (c .p-values) (region (F f c) k)) v (omega (arith, region-size (given-formed f c) (c .p-values) (values-counted f c) k h)) enough);
       given-z-unused =
           λ f g c d same values constant.
           file-is f c

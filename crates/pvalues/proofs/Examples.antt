@@ -42,6 +42,8 @@ pub record FromPExamples : Type 0 where
   pub constant-100000 : zs eight eightValues 100000 ≡ 2 ∷ 0 ∷ 1 ∷ 0 ∷ 0 ∷ []
   pub constant-250000 : zs eight eightValues 250000 ≡ 2 ∷ 1 ∷ 1 ∷ 0 ∷ 0 ∷ []
   pub constant-1497866 : zs eight eightValues 1497866 ≡ 4 ∷ 2 ∷ 3 ∷ 1 ∷ 1 ∷ []
+  -- the constant of the risk level 0.05, rounded up
+  pub constant-1497867 : zs eight eightValues 1497867 ≡ 4 ∷ 2 ∷ 3 ∷ 1 ∷ 1 ∷ []
   pub file : fileFromP eightFile eightValues 1497866 ≡
       take 24 eightFile
       ++ (1 ∷ 0 ∷ 2 ∷ 0 ∷ 4 ∷ 0 ∷ 1 ∷ 0 ∷ 1 ∷ 0 ∷ 2 ∷ 0 ∷ 2 ∷ 0 ∷ 2 ∷ 0 ∷ 3 ∷ 0 ∷ 3 ∷ 0 ∷ 4 ∷ 0 ∷ 1 ∷ 0 ∷ 4 ∷ 0 ∷ 4 ∷ 0 ∷ 1 ∷ 0 ∷ [])
@@ -50,6 +52,8 @@ pub record FromPExamples : Type 0 where
   pub all-zero : zOf 0 (0 ∷ 0 ∷ 0 ∷ []) ≡ 0
   -- a p-value that is equal to the threshold is not over it
   pub equal-not-over : over 300 (299 ∷ 300 ∷ 301 ∷ []) ≡ 1
+  -- the excess is -1,000,000
+  pub negative-passes : passes 0 1000000 2 1 ≡ true
   -- 1,000,000 times 1,000,000 on both sides; with a constant one smaller the square is larger
   pub equal-passes : (passes 1000000 1000000 0 1 ≡ true) × (zOf 1000000 (0 ∷ []) ≡ 1)
   pub larger-fails : (passes 999999 1000000 0 1 ≡ false) × (zOf 999999 (0 ∷ []) ≡ 0)
@@ -76,11 +80,13 @@ from-p-examples =
       constant-100000 = refl;
       constant-250000 = refl;
       constant-1497866 = refl;
+      constant-1497867 = refl;
       file = refl;
       no-peptides = refl;
       all-largest = refl;
       all-zero = refl;
       equal-not-over = refl;
+      negative-passes = refl;
       equal-passes = (refl, refl);
       larger-fails = (refl, refl);
       eight-of-eight = refl;

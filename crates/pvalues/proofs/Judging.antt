@@ -2,19 +2,18 @@
 use Prim.Native.Nat.{ℕ, _+_, _<_, _≤_}
 use native.Mathlib.Numerals.{add-one}
 use native.Mathlib.Omega.{arith}
-use mathlib.Core.Bool.{Bool, true, false, cond, not, _||_}
+use mathlib.Core.Bool.{Bool, true, false, cond, _||_}
 use mathlib.Core.List.{List}
 use mathlib.Core.Logic.{⊎-elim}
 use mathlib.Core.Path.{_≡_, refl, sym, _∙_}
 use lib.ListN.{length, getD}
-use lib.Dec.{eqb, ltb}
+use lib.Dec.{ltb}
 use borrow.Author.Tests.{eqb-true, ltb-false, not-false, lt-ltb, le-ltb, ne-eqb, eq-eqb}
 use Rattle.reader.specs.Lists.{someBelow}
 use Rattle.reader.specs.Bytes.{IsBytes}
-use Rattle.reader.specs.Family.{familyOf, regionCount}
+use Rattle.reader.specs.Family.{familyOf}
 use Rattle.reader.specs.Causes.{firstCause, fileCauses, Accepted}
-use Rattle.reader.specs.Calls.{short, parentsCauses, ParentsWrites}
-use Rattle.reader.specs.WellFormed.{WellFormed, Nested}
+use Rattle.reader.specs.Calls.{short, ParentsWrites}
 use Rattle.reader.proofs.Below.{none-at}
 use Rattle.reader.proofs.First.{head-clear, join-clear, join-holds}
 use Rattle.reader.proofs.Parsed.{byte-past}
@@ -24,8 +23,7 @@ use Rattle.bounds.proofs.Basics.Members.{le-or-lt}
 use Rattle.pvalues.specs.FromP.{million, cause20, cause21, cause22}
 use Rattle.pvalues.specs.Calls.{fromPInputs, fromPCauses}
 use Rattle.pvalues.specs.Private.Lowering.{PValues}
-use Rattle.pvalues.specs.Private.Climbing.{Parented}
-use Rattle.pvalues.specs.Private.Judging.{Ready, FromPJudged}
+use Rattle.pvalues.specs.Private.Judging.{FromPJudged}
 
 -- The p-values, one by one.
 

@@ -1,18 +1,18 @@
 -- The file of a family with new z: what comes before the regions is that of the given file, and the regions are written one by one.
-use Prim.Native.Nat.{ℕ, zero, suc, _+_, _*_, _-_, _<_, _≤_}
-use mathlib.Core.List.{List, [], _∷_, _++_, map, append-assoc}
+use Prim.Native.Nat.{ℕ, _+_, _*_, _<_, _≤_}
+use mathlib.Core.List.{List, [], _∷_, _++_, append-assoc}
 use mathlib.Core.Path.{_≡_, refl, sym, ap, ap₂, _∙_}
 use native.Mathlib.Numerals.{add-one}
 use native.Mathlib.Omega.{arith}
-use lib.ListN.{length, getD, take, drop, length-append, length-drop}
+use lib.ListN.{length, getD, take, drop, length-map, length-append, length-drop}
 use lib.Seq.{sets, sets-eq, take-suc, take-all, take-at, drop-append-add, drop-drop, length-take-le}
-use Rattle.reader.specs.Lists.{tabulate}
-use Rattle.reader.specs.Bytes.{IsBytes, bytesOf, withNumbers}
+use Rattle.reader.specs.Bytes.{bytesOf, withNumbers}
 use Rattle.reader.specs.Family.{Region, Family, leaves, regionCount, region, noRegion, familyOf, mark, lengthsOffset, regionsOffset, totalLength, regionFields, fields, fileOf}
-use Rattle.reader.specs.Causes.{firstCause}
+use Rattle.reader.specs.Causes.{firstCause, Accepted}
 use Rattle.reader.specs.Calls.{atStart}
 use Rattle.reader.proofs.Lists.{length-tabulate, getD-tabulate, tabulate-same}
 use Rattle.reader.proofs.First.{writes}
+use Rattle.reader.proofs.Accepting.{accepted-header, whole-length}
 use Rattle.reader.proofs.Files.{length-bytes, file-length}
 use Rattle.reader.proofs.NumberRows.{bytes-join, numbers-none, numbers-join, fields-join}
 use Rattle.bounds.proofs.Theory.Family.{map-tabulate}
@@ -132,3 +132,9 @@ writes-from-p file ps deviationSquared out new Z none found e =
     e
     ∙ ap (λ (G : Family). atStart (fileOf G) out) (bounds-family (familyOf file) Z ps deviationSquared found)
     ∙ sym (writes (fromPCauses file ps deviationSquared (length out)) none (fileOf (familyFromP (familyOf file) ps deviationSquared)) out)
+
+-- it is as long as the given one
+pub from-p-length : (file ps : List ℕ) (deviationSquared : ℕ) → Accepted file → length (fileFromP file ps deviationSquared) ≡ length file
+unfolding fileFromP familyFromP
+from-p-length file ps deviationSquared accepted =
+    omega (arith, file-length (familyFromP (familyOf file) ps deviationSquared), length-map (familyOf file .regions) (boundedRegion (familyOf file) ps deviationSquared), whole-length file (accepted-header file accepted))

@@ -4,3 +4,4 @@ pub mod Largest
 pub mod Counted
 pub mod ZLaws
 pub mod LoweredIsZ
+pub mod ZBetween

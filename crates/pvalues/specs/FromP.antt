@@ -34,8 +34,8 @@ excess gap count v = v * gap - million * count
 -- v passes if the excess is 0 or negative, or if the square of the excess is at most the constant times v times 1,000,000.
 -- The constant is the square of the deviation term of the source: by its (32) a region has at most v false peptides, at a risk of at
 -- most λ, for the largest v with v (1 - t) <= N(t) + sqrt(v log(1/λ) / 2) at every t from 0 to under 1, where N(t) is how many of the
--- region's p-values are over t. So `deviationSquared` is log(1/λ) / 2 in millionths, rounded up; its root is what the source calls C,
--- in (16).
+-- region's p-values are over t, and log is the natural logarithm. So `deviationSquared` is log(1/λ) / 2 in millionths, rounded up; its
+-- root is what the source calls C, in (16), where λ is α / K for a risk of α over K regions.
 unfoldable pub passes : ℕ → ℕ → ℕ → ℕ → Bool
 passes deviationSquared gap count v =
     noExcess gap count v || leb (excess gap count v * excess gap count v) (deviationSquared * v * million)

@@ -9,7 +9,7 @@ ghost use Prim.Native.Nat.{ℕ, _-_, _≤_};
 ghost use lib.ListN.{length, getD};
 ghost use Rattle.reader.specs.Family.{familyOf, leaves, peptidesUpTo};
 ghost use Rattle.reader.specs.WellFormed.{WellFormed};
-ghost use Rattle.bounds.proofs.Walking.Holding.{PaintedBefore};
+ghost use Rattle.bounds.specs.Holding.{PaintedBefore};
 ghost use Rattle.pvalues.specs.Private.Climbing.{Filled, Room};
 
 // The peptides of the leaves after one and up to another, in a family with at most 4,096 of them.

@@ -93,7 +93,8 @@ fn added_one_by_one(file: &[u8], after: u16, upto: u16) -> u32
     sum
 }
 
-// How many peptides the leaves after one and up to another have, as their lengths say.
+// How many peptides the leaves after one and up to another have, as their lengths say: 0 where the second does not come after the
+// first. Leaves past the last one have none.
 pub fn peptides_between(file: &[u8], after: Leaf, upto: Leaf) -> u32
     ensures { λ r. ⌜ r ≡ peptidesUpTo (familyOf (now (file .entry))) (upto .0) - peptidesUpTo (familyOf (now (file .entry))) (after .0) ⌝ }
 {

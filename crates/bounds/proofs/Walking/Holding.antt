@@ -13,9 +13,9 @@ use borrow.Author.Tests.{leb-true, le-leb, lt-leb, eqb-true, eq-eqb}
 use Rattle.reader.specs.Family.{Family, regionCount, region, leafOf}
 use Rattle.reader.specs.WellFormed.{Ordered, NestedBelow, IsParent}
 use Rattle.reader.proofs.Below.{some-at, none-at, none-below}
-use Rattle.bounds.specs.Holding.{isBetween, holdsLeaf, LastAmong, LastHolding}
+use Rattle.bounds.specs.Holding.{isBetween, holdsLeaf, LastAmong, LastHolding, PaintedBefore}
 use Rattle.bounds.specs.Private.Walks.{Painted, crowded, OneLess, MarkedNext}
-use Rattle.bounds.proofs.Basics.Members.{test, clash, refuted, and-l, and-r, and-both, le-or-lt, bit}
+use Rattle.bounds.proofs.Basics.Members.{test, clash, refuted, and-l, and-r, and-both, le-or-lt}
 
 -- Numbers up to and from a number.
 
@@ -65,12 +65,7 @@ one-among F n leaf c d h e = ⊎-elim (λ t. here t (e ∙ rw t)) (λ f. before 
           last = λ i l u. let v : i ≤ n = omega arith in ⊎-elim (λ q. rw q f) (λ d. h .last i (omega arith) d) (eq-or-lt-of-le v);
         }
 
--- A number painted from one place to another, as far as the place before j.
-pub record PaintedBefore (T : List ℕ) (first number j : ℕ) (D : List ℕ) : Type 0 where
-  pub same : length D ≡ length T
-  pub done : (i : ℕ) → first ≤ i → i < j → getD D i 0 ≡ number
-  pub below : (i : ℕ) → i < first → getD D i 0 ≡ getD T i 0
-  pub ahead : (i : ℕ) → j ≤ i → getD D i 0 ≡ getD T i 0
+-- A number painted from one place to another.
 
 module _ (T : List ℕ) (first number : ℕ) where
   pub paint-starts : PaintedBefore T first number first T

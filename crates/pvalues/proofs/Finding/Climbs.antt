@@ -1,16 +1,15 @@
 -- A climb along the parents of a peptide's innermost region, and the z of all regions after the peptides of a list.
 use Prim.Native.Nat.{ℕ, suc, _+_, _-_, _<_, _≤_}
-use mathlib.Core.Bool.{Bool, true, false, cond}
+use mathlib.Core.Bool.{Bool, true, false}
 use mathlib.Core.List.{List, [], _∷_}
 use mathlib.Core.Logic.{⊎-elim}
-use mathlib.Core.Path.{_≡_, refl, sym, ap, ap₂, _∙_}
+use mathlib.Core.Path.{_≡_, sym, _∙_}
 use native.Mathlib.Numerals.{add-one}
 use native.Mathlib.Omega.{arith}
 use lib.ListN.{length, getD, take, drop, drop-of-length-le}
 use lib.Seq.{drop-cons, length-take-le, getD-take}
 use Rattle.reader.specs.Family.{Family, regionCount, leafOf}
 use Rattle.reader.specs.WellFormed.{WellFormed, Nested}
-use Rattle.bounds.specs.Ranges.{rangeAt, has}
 use Rattle.bounds.specs.Holding.{holdsLeaf}
 use Rattle.bounds.proofs.Basics.Members.{test, in-at}
 use Rattle.bounds.proofs.Theory.CutTheorem.{largest-most}
@@ -18,7 +17,7 @@ use Rattle.bounds.proofs.Walking.Holding.{ChangedFrom, oneLess}
 use Rattle.bounds.proofs.Walking.Steps.{has-leaf}
 use Rattle.pvalues.specs.FromP.{gap, passes}
 use Rattle.pvalues.specs.Private.Ordering.{pValue, InOrder}
-use Rattle.pvalues.specs.Private.Lowering.{lowerAt, lowerAlong, hasAt, sizeAt, zAt, PValues}
+use Rattle.pvalues.specs.Private.Lowering.{lowerAt, lowerAlong, hasAt, zAt, PValues}
 use Rattle.pvalues.specs.Private.Climbing.{Lowered, LastOfFirst, Filled, Climbable, BoundsFound}
 use Rattle.pvalues.proofs.Theory.LoweredIsZ.{region-z, size-most}
 

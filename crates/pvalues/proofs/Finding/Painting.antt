@@ -1,23 +1,23 @@
 -- The regions in file order, each painted over its peptides, and the number of peptides of each.
 use Prim.Native.Nat.{ℕ, suc, _+_, _-_, _<_, _≤_}
-use mathlib.Core.Bool.{Bool, true, false, cond}
+use mathlib.Core.Bool.{cond}
 use mathlib.Core.List.{List}
 use mathlib.Core.Logic.{⊎-elim}
 use mathlib.Core.Path.{_≡_, refl, sym, subst, _∙_}
 use native.Mathlib.Omega.{arith}
 use lib.ListN.{length, getD, set}
 use lib.Seq.{getD-set-same, getD-set-other}
-use Rattle.reader.specs.Family.{Family, leaves, regionCount, region, leafOf, peptidesUpTo}
+use Rattle.reader.specs.Family.{Family, regionCount, region, leafOf, peptidesUpTo}
 use Rattle.reader.specs.WellFormed.{WellFormed}
 use Rattle.reader.proofs.Bools.{clash}
 use Rattle.reader.proofs.Below.{below-next}
 use Rattle.reader.proofs.Walk.{upTo-mono}
-use Rattle.bounds.specs.Ranges.{rangeOf, rangeAt, has}
-use Rattle.bounds.specs.Holding.{LastAmong}
+use Rattle.bounds.specs.Ranges.{rangeOf, rangeAt}
+use Rattle.bounds.specs.Holding.{LastAmong, PaintedBefore}
 use Rattle.bounds.proofs.Basics.Members.{test, le-or-lt}
 use Rattle.bounds.proofs.Basics.Nesting.{has-facts, has-holds}
 use Rattle.bounds.proofs.Theory.Family.{leaf-most}
-use Rattle.bounds.proofs.Walking.Holding.{PaintedBefore, none-among, one-among}
+use Rattle.bounds.proofs.Walking.Holding.{none-among, one-among}
 use Rattle.bounds.proofs.Walking.Steps.{has-leaf}
 use Rattle.pvalues.specs.Private.Lowering.{hasAt, sizeAt}
 use Rattle.pvalues.specs.Private.Climbing.{LastOfFirst, SizesOfFirst}

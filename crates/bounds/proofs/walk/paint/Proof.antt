@@ -4,7 +4,8 @@ use native.Mathlib.Omega.{arith}
 use mathlib.Core.Path.{_≡_}
 use lib.ListN.{length}
 use denote.Ref.{now}
-use Rattle.bounds.proofs.Walking.Holding.{PaintedBefore, paint-starts, paint-more, paint-ends}
+use Rattle.bounds.specs.Holding.{PaintedBefore}
+use Rattle.bounds.proofs.Walking.Holding.{paint-starts, paint-more, paint-ends}
 use borrow.Author.Needs.{needs}
 use Rattle.bounds.proofs.walk.paint.Statement.{statement}
 use Rattle.bounds.proofs.walk.paint.Tie as tie

@@ -1,7 +1,7 @@
 -- The peptides from place i of the order on are still to be visited.
-use Prim.Native.Nat.{ℕ, suc, _+_, _-_, _<_, _≤_}
+use Prim.Native.Nat.{ℕ, suc, _-_, _<_, _≤_}
 use native.Mathlib.Omega.{arith}
-use mathlib.Core.Path.{_≡_, refl, sym, ap, _∙_}
+use mathlib.Core.Path.{_≡_, refl, _∙_}
 use lib.ListN.{length, getD, take, length-replicate}
 use lib.Seq.{length-take-le}
 use denote.Ref.{now}

@@ -1,14 +1,13 @@
 -- The loop has painted the first k regions and counted the peptides up to the leaf passed, from which on the other regions begin.
 use Prim.Native.Nat.{ℕ, _+_, _-_, _<_, _≤_}
 use native.Mathlib.Omega.{arith}
-use mathlib.Core.Path.{_≡_, refl, sym, ap, subst, _∙_}
-use lib.ListN.{length, getD, length-set}
+use mathlib.Core.Path.{_≡_, refl, sym, ap, _∙_}
+use lib.ListN.{length, length-set}
 use denote.Ref.{now}
-use Rattle.reader.specs.Family.{Family, familyOf, leaves, region, regionCount, peptidesUpTo}
+use Rattle.reader.specs.Family.{familyOf, region, regionCount, peptidesUpTo}
 use Rattle.reader.proofs.Parsed.{held-first, held-last}
 use Rattle.reader.proofs.Walk.{nothing-before, upTo-mono}
 use Rattle.bounds.specs.Ranges.{rangeAt}
-use Rattle.bounds.proofs.Walking.Holding.{PaintedBefore}
 use Rattle.pvalues.specs.Private.Lowering.{sizeAt}
 use Rattle.pvalues.specs.Private.Climbing.{LastOfFirst, SizesOfFirst}
 use Rattle.pvalues.proofs.Finding.Painting.{none-painted, low-is, high-is, low-high, high-most, one-painted, one-sized, passed-more}

@@ -3,7 +3,8 @@ use Prim.Native.Nat.{_-_, _≤_}
 use native.Mathlib.Omega.{arith}
 use mathlib.Core.Path.{_≡_}
 use lib.ListN.{length}
-use Rattle.bounds.proofs.Walking.Holding.{PaintedBefore, paint-starts, paint-more}
+use Rattle.bounds.specs.Holding.{PaintedBefore}
+use Rattle.bounds.proofs.Walking.Holding.{paint-starts, paint-more}
 use borrow.Author.Needs.{needs}
 use Rattle.pvalues.proofs.innermost.paint.Statement.{statement}
 use Rattle.pvalues.proofs.innermost.paint.Tie as tie

@@ -1,5 +1,5 @@
 -- The leaves up to the second one named are those up to it or to the last leaf; whichever way they are read, their lengths are the same.
-use Prim.Native.Nat.{ℕ, min}
+use Prim.Native.Nat.{min}
 use native.Mathlib.Omega.{arith}
 use mathlib.Core.Path.{_≡_, ap, _∙_}
 use denote.Ref.{now}
