@@ -50,20 +50,22 @@ placed-after p out b n e room =
 
 -- What comes before the regions.
 
+abbrev frontNumbers : Family → List ℕ
+frontNumbers F =
+    F .peptides ∷ leaves F ∷ regionCount F ∷ lengthsOffset ∷ regionsOffset (leaves F) ∷ totalLength (leaves F) (regionCount F) ∷ F .lengths
+
 abbrev front : Family → List ℕ
-front F =
-    mark ++ bytesOf (F .peptides ∷ leaves F ∷ regionCount F ∷ lengthsOffset ∷ regionsOffset (leaves F) ∷ totalLength (leaves F) (regionCount F) ∷ F .lengths)
+front F = mark ++ bytesOf (frontNumbers F)
 
 front-file : (F : Family) → fileOf F ≡ front F ++ bytesOf (regionFields (F .regions))
 unfolding fileOf fields
 front-file F =
-    ap (λ (l : List ℕ). mark ++ l)
-    (bytes-join (F .peptides ∷ leaves F ∷ regionCount F ∷ lengthsOffset ∷ regionsOffset (leaves F) ∷ totalLength (leaves F) (regionCount F) ∷ F .lengths) (regionFields (F .regions)))
+    ap (λ (l : List ℕ). mark ++ l) (bytes-join (frontNumbers F) (regionFields (F .regions)))
     ∙ sym (append-assoc mark _ (bytesOf (regionFields (F .regions))))
 
 front-length : (F : Family) → length (front F) ≡ regionsOffset (leaves F)
 unfolding mark
-front-length F = omega (arith, length-bytes (F .peptides ∷ leaves F ∷ regionCount F ∷ lengthsOffset ∷ regionsOffset (leaves F) ∷ totalLength (leaves F) (regionCount F) ∷ F .lengths))
+front-length F = omega (arith, length-bytes (frontNumbers F))
 
 module _ (F : Family) (Z : List ℕ) where
   regions-counted : regionCount (withBounds F Z) ≡ regionCount F
