@@ -5,3 +5,4 @@ pub mod Counted
 pub mod ZLaws
 pub mod LoweredIsZ
 pub mod ZBetween
+pub mod Least

@@ -4,3 +4,4 @@ pub mod Lowering
 pub mod Climbing
 pub mod Writing
 pub mod Judging
+pub mod Simes

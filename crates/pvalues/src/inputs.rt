@@ -1,13 +1,13 @@
-// Causes 20 to 22, and the first cause of a whole call.
+// Causes 20 to 23, and the first cause of a whole call.
 use reader::Checked;
 use reader::family::peptide_count;
 ghost use mathlib.Core.Path.{_≡_};
-ghost use Prim.Native.Nat.{_≤_};
+ghost use Prim.Native.Nat.{_≤_, _<_};
 ghost use lib.ListN.{length};
 ghost use lib.Dec.{ltb};
 ghost use Rattle.reader.specs.Causes.{firstCause};
 ghost use Rattle.pvalues.specs.FromP.{cause21};
-ghost use Rattle.pvalues.specs.Calls.{fromPInputs};
+ghost use Rattle.pvalues.specs.Calls.{fromPInputs, hybridInputs};
 ghost use Rattle.pvalues.specs.Private.Judging.{FromPJudged};
 
 fn over_one(p: u32) -> bool
@@ -64,4 +64,29 @@ pub(crate) fn from_p_cause(
         } => input_cause(file, p_values, deviation_squared, room),
         Checked::Refused(number) => number,
     }
+}
+
+// The first cause of `hybrid` after those of the file and the path that holds, with so many places for values, or 0.
+pub(crate) fn hybrid_cause(
+    file: &[u8],
+    path: &[u16],
+    p_values: &[u32],
+    level: u32,
+    room: usize,
+) -> u16
+    ensures { λ r. ⌜ r ≡ firstCause (hybridInputs (now (file .entry)) (now (path .entry)) (now («p_values» .entry)) level room) ⌝ }
+{
+    if room <= path.len() {
+        return 16;
+    }
+    if p_values.len() != peptide_count(file) as usize {
+        return 20;
+    }
+    if bad_p_values(p_values) {
+        return 21;
+    }
+    if level == 0 {
+        return 23;
+    }
+    if 1000000 < level { 23 } else { 0 }
 }
