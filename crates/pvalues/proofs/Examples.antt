@@ -14,7 +14,7 @@ use Rattle.reader.proofs.Examples.{eight, eightFile}
 use Rattle.bounds.specs.Ranges.{rangeOf, those}
 use Rattle.bounds.specs.Curves.{largestUpTo}
 use Rattle.pvalues.specs.FromP.{gap, over, noExcess, excess, passes, passesAt, thresholds, every, zOf, regionPValues, boundedRegion, familyFromP, cause20, cause21, cause22}
-use Rattle.pvalues.specs.Calls.{fromPInputs, fromPCauses, fileFromP}
+use Rattle.pvalues.specs.Calls.{roomAndPValues, fromPInputs, fromPCauses, fileFromP}
 
 -- the p-values of the peptides of the eight-peptide family
 abbrev pub eightValues : List ℕ
@@ -73,7 +73,7 @@ pub record FromPExamples : Type 0 where
   pub none : told eightValues 100000000 54 ≡ 0
 
 pub from-p-examples : FromPExamples
-unfolding tabulate sum sameList someBelow countBelow numberAt bytesOf region peptidesUpTo lengthAt regionAt familyOf regionFields fields mark fileOf before shareLeaf regionWithin crossing regionInside cause1 cause2 cause3 cause4 cause5 cause6 cause7 cause8 cause9 cause10 misplaced firstCause headerCauses familyCauses fileCauses short rangeOf those largestUpTo gap over noExcess excess passes passesAt thresholds every zOf regionPValues boundedRegion familyFromP cause20 cause21 cause22 fromPInputs fromPCauses fileFromP
+unfolding tabulate sum sameList someBelow countBelow numberAt bytesOf region peptidesUpTo lengthAt regionAt familyOf regionFields fields mark fileOf before shareLeaf regionWithin crossing regionInside cause1 cause2 cause3 cause4 cause5 cause6 cause7 cause8 cause9 cause10 misplaced firstCause headerCauses familyCauses fileCauses short rangeOf those largestUpTo gap over noExcess excess passes passesAt thresholds every zOf regionPValues boundedRegion familyFromP cause20 cause21 cause22 roomAndPValues fromPInputs fromPCauses fileFromP
 from-p-examples =
     record {
       constant-0 = refl;

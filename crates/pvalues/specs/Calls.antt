@@ -1,6 +1,6 @@
 -- What `bounds_from_p` and `hybrid` answer and write, defined from their inputs.
 use Prim.Native.Nat.{ℕ, _+_}
-use mathlib.Core.Bool.{not}
+use mathlib.Core.Bool.{Bool, not}
 use mathlib.Core.List.{List, [], _∷_, _++_}
 use mathlib.Core.Path.{_≡_}
 use lib.ListN.{length}
@@ -13,16 +13,21 @@ use Rattle.bounds.specs.declared.Curved.{Curved}
 use Rattle.pvalues.specs.FromP.{familyFromP, cause20, cause21, cause22}
 use Rattle.pvalues.specs.Hybrid.{hybridValues, cause23}
 
+-- what both calls try after the family, and the path if there is one: an output that is too short, then the p-values
+unfoldable pub roomAndPValues : Bool → ℕ → List ℕ → List Cause
+roomAndPValues tooShort m ps =
+    record { number = 16; holds = tooShort }
+    ∷ record { number = 20; holds = cause20 m ps }
+    ∷ record { number = 21; holds = cause21 ps }
+    ∷ []
+
 -- Bounds from p-values.
 
--- what is tried after the file: an output under the family's length, then the p-values and the constant
+-- what is tried after the file: an output under the family's length, the p-values, then the constant
 unfoldable pub fromPInputs : List ℕ → List ℕ → ℕ → ℕ → List Cause
 fromPInputs file ps deviationSquared room =
-    record { number = 16; holds = short (length file) room }
-    ∷ record { number = 20; holds = cause20 (familyOf file .peptides) ps }
-    ∷ record { number = 21; holds = cause21 ps }
-    ∷ record { number = 22; holds = cause22 deviationSquared }
-    ∷ []
+    roomAndPValues (short (length file) room) (familyOf file .peptides) ps
+    ++ (record { number = 22; holds = cause22 deviationSquared } ∷ [])
 
 -- the causes, in the order in which they are tried; room is the number of bytes of the output
 unfoldable pub fromPCauses : List ℕ → List ℕ → ℕ → ℕ → List Cause
@@ -34,14 +39,11 @@ fileFromP file ps deviationSquared = fileOf (familyFromP (familyOf file) ps devi
 
 -- The hybrid curve.
 
--- what is tried after the file and the path: values under T + 1, then the p-values and the level
+-- what is tried after the file and the path: values under T + 1, the p-values, then the level
 unfoldable pub hybridInputs : List ℕ → List ℕ → List ℕ → ℕ → ℕ → List Cause
 hybridInputs file path ps level room =
-    record { number = 16; holds = short (length path + 1) room }
-    ∷ record { number = 20; holds = cause20 (familyOf file .peptides) ps }
-    ∷ record { number = 21; holds = cause21 ps }
-    ∷ record { number = 23; holds = cause23 level }
-    ∷ []
+    roomAndPValues (short (length path + 1) room) (familyOf file .peptides) ps
+    ++ (record { number = 23; holds = cause23 level } ∷ [])
 
 -- the causes, in the order in which they are tried; room is the number of places for values
 unfoldable pub hybridCauses : List ℕ → List ℕ → List ℕ → ℕ → ℕ → List Cause

@@ -2,12 +2,15 @@
 use reader::Checked;
 use reader::family::peptide_count;
 ghost use mathlib.Core.Path.{_≡_};
-ghost use Prim.Native.Nat.{_≤_, _<_};
+ghost use Prim.Native.Nat.{_≤_};
 ghost use lib.ListN.{length};
 ghost use lib.Dec.{ltb};
+ghost use Rattle.reader.specs.Family.{familyOf};
 ghost use Rattle.reader.specs.Causes.{firstCause};
+ghost use Rattle.reader.specs.Calls.{short};
 ghost use Rattle.pvalues.specs.FromP.{cause21};
-ghost use Rattle.pvalues.specs.Calls.{fromPInputs, hybridInputs};
+ghost use Rattle.pvalues.specs.Hybrid.{cause23};
+ghost use Rattle.pvalues.specs.Calls.{roomAndPValues, fromPInputs, hybridInputs};
 ghost use Rattle.pvalues.specs.Private.Judging.{FromPJudged};
 
 fn over_one(p: u32) -> bool
@@ -29,18 +32,26 @@ fn bad_p_values(p_values: &[u32]) -> bool
     bad
 }
 
-// The first cause after those of the file that holds, with an output of so many bytes, or 0.
-fn input_cause(file: &[u8], p_values: &[u32], deviation_squared: u32, room: usize) -> u16
-    ensures { λ r. ⌜ r ≡ firstCause (fromPInputs (now (file .entry)) (now («p_values» .entry)) «deviation_squared» room) ⌝ }
+// The first of the causes 16, 20 and 21 that holds, with room for so many elements of those needed, or 0.
+fn room_and_p_cause(file: &[u8], p_values: &[u32], needed: usize, room: usize) -> u16
+    ensures { λ r. ⌜ r ≡ firstCause (roomAndPValues (short needed room) (familyOf (now (file .entry)) .peptides) (now («p_values» .entry))) ⌝ }
 {
-    if room < file.len() {
+    if room < needed {
         return 16;
     }
     if p_values.len() != peptide_count(file) as usize {
         return 20;
     }
-    if bad_p_values(p_values) {
-        return 21;
+    if bad_p_values(p_values) { 21 } else { 0 }
+}
+
+// The first cause of `bounds_from_p` after those of the file that holds, with an output of so many bytes, or 0.
+fn input_cause(file: &[u8], p_values: &[u32], deviation_squared: u32, room: usize) -> u16
+    ensures { λ r. ⌜ r ≡ firstCause (fromPInputs (now (file .entry)) (now («p_values» .entry)) «deviation_squared» room) ⌝ }
+{
+    let cause = room_and_p_cause(file, p_values, file.len(), room);
+    if cause != 0 {
+        return cause;
     }
     if 100000000 < deviation_squared { 22 } else { 0 }
 }
@@ -66,6 +77,16 @@ pub(crate) fn from_p_cause(
     }
 }
 
+// The level is 0 or over 1,000,000.
+fn bad_level(level: u32) -> bool
+    ensures { λ r. ⌜ r ≡ cause23 level ⌝ }
+{
+    if level == 0 {
+        return true;
+    }
+    1000000 < level
+}
+
 // The first cause of `hybrid` after those of the file and the path that holds, with so many places for values, or 0.
 pub(crate) fn hybrid_cause(
     file: &[u8],
@@ -76,17 +97,9 @@ pub(crate) fn hybrid_cause(
 ) -> u16
     ensures { λ r. ⌜ r ≡ firstCause (hybridInputs (now (file .entry)) (now (path .entry)) (now («p_values» .entry)) level room) ⌝ }
 {
-    if room <= path.len() {
-        return 16;
+    let cause = room_and_p_cause(file, p_values, path.len() + 1, room);
+    if cause != 0 {
+        return cause;
     }
-    if p_values.len() != peptide_count(file) as usize {
-        return 20;
-    }
-    if bad_p_values(p_values) {
-        return 21;
-    }
-    if level == 0 {
-        return 23;
-    }
-    if 1000000 < level { 23 } else { 0 }
+    if bad_level(level) { 23 } else { 0 }
 }

@@ -17,7 +17,7 @@ use Rattle.reader.proofs.First.{first-holds, first-fails, join-clear, join-hold
 use Rattle.bounds.specs.Curves.{curveValues, curveMarks, cutOf, entry, markAt, cause15}
 use Rattle.bounds.specs.Calls.{IsPath, inputCauses, curveCauses, cutCauses, pathRefusal, pathAnswer, CurveValuesWrites, CurveMarksWrites}
 use Rattle.bounds.specs.Private.Walks.{InputRefused}
-use Rattle.bounds.proofs.Calls.PathLaws.{input-path, input-numbered}
+use Rattle.bounds.proofs.Calls.PathLaws.{input-path, input-numbered, input-few}
 
 -- The answer of a call with a path.
 
@@ -45,6 +45,14 @@ module _ (file path : List ℕ) where
       let same = join-holds (inputCauses file path) more (h .some) in
       h .told ∙ ap (pathRefusal path) (sym same) ∙ sym (path-refuses _ path result (λ z. h .some (sym same ∙ z)))
 
+  -- where these do not hold, the first of what is tried after them is told
+  pub late-refused : (more : List Cause) (result : List ℕ) (n : ℕ) → firstCause (inputCauses file path) ≡ 0
+      → n ≡ firstCause more → (n ≡ 0 → ⊥) → (n ≡ 13 → ⊥) → record { number = n; values = [] } ≡ pathAnswer (inputCauses file path ++ more) path result
+  unfolding pathRefusal
+  late-refused more result n clear e some other =
+      let first : firstCause (inputCauses file path ++ more) ≡ n = join-clear (inputCauses file path) more (input-numbered file path) clear ∙ sym e in
+      sym (path-refuses _ path result (λ z. some (sym first ∙ z)) ∙ ap (pathRefusal path) first ∙ rw (ne-eqb n 13 other))
+
   refused-some : (more : List Cause) (r : Report) → InputRefused file path r → firstCause (inputCauses file path ++ more) ≡ 0 → ⊥
   refused-some more r h z = h .some (sym (join-holds (inputCauses file path) more (h .some)) ∙ z)
 
@@ -55,13 +63,6 @@ module _ (file path : List ℕ) (c : Cause) (clear : firstCause (inputCauses fil
   none-holds : c .holds ≡ false → firstCause (inputCauses file path ++ (c ∷ [])) ≡ 0
   unfolding firstCause
   none-holds f = join-clear (inputCauses file path) (c ∷ []) (input-numbered file path) clear ∙ first-fails c [] f
-
-  last-so : c .holds ≡ true → (c .number ≡ 0 → ⊥) → (c .number ≡ 13 → ⊥) → (result : List ℕ)
-      → record { number = c .number; values = [] } ≡ pathAnswer (inputCauses file path ++ (c ∷ [])) path result
-  unfolding pathRefusal
-  last-so t some other result =
-      let first = last-holds t in
-      sym (path-refuses _ path result (λ z. some (sym first ∙ z)) ∙ ap (pathRefusal path) first ∙ rw (ne-eqb (c .number) 13 other))
 
 -- The curve.
 
@@ -98,7 +99,7 @@ module _ (file path values marks : List ℕ) where
   unfolding curveCauses
   curve-short e s =
       let first : firstCause (curveCauses file path values marks) ≡ 16 = last-holds file path _ e s in
-      curve-stops _ (last-so file path _ e s (λ z. omega arith) (λ z. omega arith) []) (λ z. omega (arith, first))
+      curve-stops _ (late-refused file path _ [] 16 e (sym (first-holds _ [] s)) (λ z. omega arith) (λ z. omega arith)) (λ z. omega (arith, first))
 
   pub curve-writes : (v w : List ℕ) → firstCause (inputCauses file path) ≡ 0 → (short (length path + 1) (length values) || short (length path) (length marks)) ≡ false
       → v ≡ curveValues (familyOf file) path ++ drop (length path + 1) values → w ≡ curveMarks (familyOf file) path ++ drop (length path) marks
@@ -117,6 +118,25 @@ module _ (file path values marks : List ℕ) where
         ),
       )
 
+  -- With room for the largest path, a call is declined by the causes of the family and the path alone: the refusal is then that of every
+  -- call that tries these first.
+  module _ (more : 4097 ≤ length values) (room : 4096 ≤ length marks) where
+    pub curve-judges : firstCause (curveCauses file path values marks) ≡ firstCause (inputCauses file path)
+    unfolding curveCauses short
+    curve-judges =
+        ⊎-elim
+        (λ none.
+        let few = input-few file path none in
+        none-holds file path _ none (rw (le-ltb (length values) (length path + 1) (omega arith), le-ltb (length marks) (length path) (omega arith))) ∙ sym none)
+        (λ some. join-holds (inputCauses file path) _ some)
+        (none-or-some (inputCauses file path))
+
+    pub curve-refuses-so : (r : Report) → r ≡ pathAnswer (curveCauses file path values marks) path [] → (firstCause (inputCauses file path) ≡ 0 → ⊥)
+        → (others : List Cause) (result : List ℕ) → r ≡ pathAnswer (inputCauses file path ++ others) path result
+    curve-refuses-so r e some others result =
+        refused-so file path others result r
+        (record { some = some; told = e ∙ path-refuses _ path [] (λ z. some (sym curve-judges ∙ z)) ∙ ap (pathRefusal path) curve-judges })
+
 -- The cut.
 
 module _ (file path : List ℕ) (a b : ℕ) where
@@ -134,7 +154,7 @@ module _ (file path : List ℕ) (a b : ℕ) where
 
   pub cut-no-fraction : firstCause (inputCauses file path) ≡ 0 → cause15 a b ≡ true → CutDone (record { number = 15; values = [] })
   unfolding cutCauses
-  cut-no-fraction e h = last-so file path _ e h (λ z. omega arith) (λ z. omega arith) _
+  cut-no-fraction e h = late-refused file path _ _ 15 e (sym (first-holds _ [] h)) (λ z. omega arith) (λ z. omega arith)
 
   pub cut-answers : (t : ℕ) → firstCause (inputCauses file path) ≡ 0 → cause15 a b ≡ false → t ≡ cutOf (familyOf file) path a b
       → CutDone (record { number = 0; values = t ∷ [] })

@@ -17,10 +17,11 @@ use Rattle.reader.specs.Causes.{Cause, firstCause, headerCauses, familyCauses, 
 use Rattle.reader.specs.WellFormed.{ParentsBelow}
 use Rattle.reader.proofs.Bools.{or-fails-l, or-fails-r}
 use Rattle.reader.proofs.Below.{none-at, none-below, first-at, first-none}
-use Rattle.reader.proofs.First.{Numbered, head-clear, join-clear, join-holds}
+use Rattle.reader.proofs.First.{Numbered, head-clear, join-clear, join-holds, clear-left, clear-right}
+use Rattle.reader.proofs.Judged.{peptides-counted}
 use Rattle.reader.proofs.Accepting.{well-formed, accepted-header, few-regions, file-numbered}
 use Rattle.bounds.specs.Curves.{cause11, cause12, repeated, cause13, firstRepeat}
-use Rattle.bounds.specs.Calls.{pathCauses, inputCauses, pathRefusal}
+use Rattle.bounds.specs.Calls.{pathCauses, IsPath, inputCauses, pathRefusal}
 use Rattle.bounds.specs.Private.Walks.{numberCause, Walkable, Distinct, InputRefused}
 use Rattle.bounds.proofs.Basics.Members.{test, clash, or-r, bit}
 
@@ -183,6 +184,10 @@ accepted-path m path h =
     let c = head-clear _ _ (omega arith) (b .1) in
     is-path m path (rw (a .0, b .0)) (c .0)
 
+pub path-most : (m : ℕ) (path : List ℕ) → IsPath m path → length path ≤ m
+unfolding pathCauses cause11
+path-most m path h = ltb-false m (length path) (head-clear _ _ (omega arith) h .0)
+
 -- The first cause of a family and a path.
 
 -- no number of the causes is over n
@@ -211,6 +216,17 @@ module _ (s path : List ℕ) where
   pub input-path : Accepted s → firstCause (inputCauses s path) ≡ firstCause (pathCauses (familyOf s .peptides) path)
   unfolding inputCauses
   input-path h = join-clear (fileCauses s) (pathCauses (familyOf s .peptides) path) (file-numbered s) h
+
+  -- where none holds, the file is accepted, and it is a path, with at most as many peptides as there can be
+  pub input-accepted : firstCause (inputCauses s path) ≡ 0 → Accepted s × IsPath (familyOf s .peptides) path
+  unfolding inputCauses
+  input-accepted h =
+      (clear-left (fileCauses s) (pathCauses (familyOf s .peptides) path) (file-numbered s) h, clear-right (fileCauses s) (pathCauses (familyOf s .peptides) path) (file-numbered s) h)
+
+  pub input-few : firstCause (inputCauses s path) ≡ 0 → length path ≤ 4096
+  input-few h =
+      let k = input-accepted h in
+      omega (arith, path-most (familyOf s .peptides) path (k .1), peptides-counted (familyOf s .peptides) (accepted-header s (k .0) .no2) .1)
 
   -- the refusal with a number other than 13, and with 13
   pub input-refused : (n : ℕ) → n ≡ firstCause (inputCauses s path) → (n ≡ 0 → ⊥) → (n ≡ 13 → ⊥) → InputRefused s path (record { number = n; values = [] })

@@ -1,11 +1,10 @@
 -- The Simes bound along a path, as taken slots: what the private functions of `slots` and `simes` promise each other.
-use Prim.Native.Nat.{ℕ, _+_, _*_, _<_, _≤_, min}
+use Prim.Native.Nat.{ℕ, _*_, _<_, _≤_, min}
 use mathlib.Core.Bool.{Bool, true, false, not, cond, _&&_}
 use mathlib.Core.List.{List}
 use mathlib.Core.Path.{_≡_}
 use lib.ListN.{length, getD, take}
 use lib.Dec.{eqb, leb, ltb}
-use Rattle.reader.specs.Lists.{tabulate}
 use Rattle.bounds.specs.Ranges.{Peptides, card}
 use Rattle.bounds.specs.Curves.{among, largestUpTo}
 use Rattle.bounds.specs.Calls.{IsPath}
@@ -32,7 +31,7 @@ pub record LastFree (slots : List ℕ) (last slot : ℕ) : Type 0 where
   pub free : isFree slots slot ≡ true
   pub above : (q : ℕ) → slot < q → q ≤ last → isFree slots q ≡ false
 
--- the slot is found, and the slots that are free afterwards were free before
+-- the slot is found, and the same slots are free as before
 pub record Searched (slots : List ℕ) (last : ℕ) (new : List ℕ) (slot : ℕ) : Type 0 where
   pub kept : Slots new
   pub same : (q : ℕ) → q < 4097 → isFree new q ≡ isFree slots q
