@@ -39,13 +39,14 @@ use Rattle.reduction.specs.declared.ReducedFile.{ReducedFile}
 use Rattle.reduction.specs.declared.ReducedFile.the-variants as made
 use Rattle.reduction.specs.declared.Compared.{Compared}
 use Rattle.reduction.specs.declared.Compared.the-variants as compared
-use Rattle.pvalues.specs.Calls.{fromPInputs, fromPCauses, fileFromP, FromPAnswers, FromPWrites}
+use Rattle.pvalues.specs.Hybrid.{hybridValues}
+use Rattle.pvalues.specs.Calls.{roomAndPValues, fromPInputs, fromPCauses, fileFromP, FromPAnswers, FromPWrites, hybridInputs, hybridCauses, HybridAnswers, HybridWrites, HybridDeclines}
 use Rattle.volcano.specs.Rules.{chosen}
 use Rattle.volcano.specs.Calls.{chooseCauses, ChooseAnswers, ChooseWrites}
 use Rattle.volcano.specs.declared.Rule.{Rule}
 use Rattle.volcano.specs.declared.Rule.the-variants.{AtMost, Between, Volcano}
 use Rattle.phf.specs.Fields.{valueAt, valueWith, checkedFields, partFields, boundedFields, curvedFields, cuttingFields, reducedFields, comparedFields}
-use Rattle.phf.specs.Calls.{PhfCheckAnswers, PhfRegionsAnswers, PhfBoundAnswers, PhfCurveAnswers, PhfCutAnswers, PhfReduceAnswers, PhfSameAnswers}
+use Rattle.phf.specs.Calls.{PhfCheckAnswers, PhfRegionsAnswers, PhfBoundAnswers, PhfCurveAnswers, PhfCutAnswers, PhfReduceAnswers, PhfSameAnswers, PhfHybridAnswers}
 use Rattle.phf.specs.Obeys.{numbers, NoZero, NoneHolds, FirstHolds, Obeys}
 use Rattle.phf.specs.declared.PhfChecked.{PhfChecked}
 use Rattle.phf.specs.declared.PhfPart.{PhfPart}
@@ -73,6 +74,7 @@ pub record DemandOne : Type 0 where
   pub reduce-tries : (file out : List ℕ) → numbers (reduceCauses file out) ≡ 1 ∷ 2 ∷ 3 ∷ 4 ∷ 5 ∷ 6 ∷ 7 ∷ 8 ∷ 9 ∷ 10 ∷ 16 ∷ []
   pub same-tries : (first second : List ℕ) → numbers (compareCauses first second) ≡ 1 ∷ 2 ∷ 3 ∷ 4 ∷ 5 ∷ 6 ∷ 7 ∷ 8 ∷ 9 ∷ 10 ∷ 101 ∷ 102 ∷ 103 ∷ 104 ∷ 105 ∷ 106 ∷ 107 ∷ 108 ∷ 109 ∷ 110 ∷ []
   pub bounds-from-p-tries : (file ps : List ℕ) (deviationSquared room : ℕ) → numbers (fromPCauses file ps deviationSquared room) ≡ 1 ∷ 2 ∷ 3 ∷ 4 ∷ 5 ∷ 6 ∷ 7 ∷ 8 ∷ 9 ∷ 10 ∷ 16 ∷ 20 ∷ 21 ∷ 22 ∷ []
+  pub hybrid-tries : (file path ps : List ℕ) (level room : ℕ) → numbers (hybridCauses file path ps level room) ≡ 1 ∷ 2 ∷ 3 ∷ 4 ∷ 5 ∷ 6 ∷ 7 ∷ 8 ∷ 9 ∷ 10 ∷ 11 ∷ 12 ∷ 13 ∷ 16 ∷ 20 ∷ 21 ∷ 23 ∷ []
   -- The calls of C. For each, after its promises: its causes; its answer, the refusal with the number n, the answer of its work; its lent
   -- lists after the call, before it, and with its work.
   pub phf-check : (file : List ℕ) (r : PhfChecked) → PhfCheckAnswers file r
@@ -107,6 +109,10 @@ pub record DemandOne : Type 0 where
       [] [] []
   pub phf-bounds-from-p : (file ps : List ℕ) (deviationSquared : ℕ) (out new : List ℕ) (r : ℕ) → FromPAnswers file ps deviationSquared out r → FromPWrites file ps deviationSquared out new
       → Obeys (fromPCauses file ps deviationSquared (length out)) r (λ n. n) 0 (new ∷ []) (out ∷ []) (atStart (fileFromP file ps deviationSquared) out ∷ [])
+  pub phf-hybrid : (file path ps : List ℕ) (level : ℕ) (values new : List ℕ) (r : PhfCurved) → PhfHybridAnswers file path ps level values r → HybridWrites file path ps level values new
+      → Obeys (hybridCauses file path ps level (length values))
+      r (λ n. record { number = n; place = cond (eqb n 13) (firstRepeat path) 0 }) (record { number = 0; place = 0 })
+      (new ∷ []) (values ∷ []) (atStart (hybridValues (familyOf file) ps level path) values ∷ [])
   -- The calls of the libraries, in the same order.
   pub check : (file : List ℕ) (r : Checked) → CheckAnswers file r
       → Obeys (fileCauses file) r told.Refused (told.Family (familyOf file .peptides) (leaves (familyOf file)) (regionCount (familyOf file))) [] [] []
@@ -142,9 +148,14 @@ pub record DemandOne : Type 0 where
       [] [] []
   pub bounds-from-p : (file ps : List ℕ) (deviationSquared : ℕ) (out new : List ℕ) (r : ℕ) → FromPAnswers file ps deviationSquared out r → FromPWrites file ps deviationSquared out new
       → Obeys (fromPCauses file ps deviationSquared (length out)) r (λ n. n) 0 (new ∷ []) (out ∷ []) (atStart (fileFromP file ps deviationSquared) out ∷ [])
+  pub hybrid : (file path ps : List ℕ) (level : ℕ) (values new : List ℕ) (r : Curved) → HybridAnswers file path ps level values r → HybridDeclines file path ps level values r → HybridWrites file path ps level values new
+      → Obeys (hybridCauses file path ps level (length values))
+      r (λ n. cond (eqb n 13) (curved.Repeated (firstRepeat path)) (curved.Refused n)) curved.Written
+      (new ∷ []) (values ∷ []) (atStart (hybridValues (familyOf file) ps level path) values ∷ [])
   -- The place that comes with 13 is the first one of the path whose peptide stands earlier too; no other number is.
   pub curve-place : (file path values marks : List ℕ) → firstCause (curveCauses file path values marks) ≡ 13 → IsFirstRepeat path (firstRepeat path)
   pub cut-place : (file path : List ℕ) (a b : ℕ) → firstCause (cutCauses file path a b) ≡ 13 → IsFirstRepeat path (firstRepeat path)
+  pub hybrid-place : (file path ps : List ℕ) (level room : ℕ) → firstCause (hybridCauses file path ps level room) ≡ 13 → IsFirstRepeat path (firstRepeat path)
   pub only-place : (path : List ℕ) (p : ℕ) → IsFirstRepeat path p → p ≡ firstRepeat path
   -- The part that holds the regions: of an accepted file the 6K bytes from byte 16 + 2N on; of a refused one nothing, at the file's start.
   pub regions-accepted : (place fileAt : ℕ × ℕ) (part file : List ℕ) → RegionsGiven place part fileAt file → Accepted file
@@ -221,7 +232,7 @@ module _ (place fileAt : ℕ × ℕ) (part file : List ℕ) (h : RegionsGiven pl
   part-of-refused r = (h .bytes ∙ part-refused file r, h .part .block, omega (arith, h .part .place, start-refused file r))
 
 pub demand-one : DemandOne
-unfolding headerCauses familyCauses fileCauses parentsCauses causesWithRoom pathCauses inputCauses curveCauses cutCauses reduceCauses compareCauses chooseCauses fromPInputs fromPCauses checked checkedFields boundedFields curvedFields cuttingFields reducedFields comparedFields valueAt valueWith reducedCounts comparison checkedOf boundedOf reducedOf comparedOf curvedOf cutFoundOf
+unfolding headerCauses familyCauses fileCauses parentsCauses causesWithRoom pathCauses inputCauses curveCauses cutCauses reduceCauses compareCauses chooseCauses roomAndPValues fromPInputs fromPCauses hybridInputs hybridCauses checked checkedFields boundedFields curvedFields cuttingFields reducedFields comparedFields valueAt valueWith reducedCounts comparison checkedOf boundedOf reducedOf comparedOf curvedOf cutFoundOf
 demand-one =
     record {
       first-cause = first-is;
@@ -235,6 +246,7 @@ demand-one =
       reduce-tries = λ file out. refl;
       same-tries = λ first second. refl;
       bounds-from-p-tries = λ file ps deviationSquared room. refl;
+      hybrid-tries = λ file path ps level room. refl;
       phf-check = λ file r h. made-obeys (fileCauses file) _ checkedFields r [] [] [] h (nothing-lent (fileCauses file));
       phf-bound = λ file selection taken new r h w. made-obeys (selectionCauses file selection taken) _ boundedFields r (new ∷ []) _ _ h (lent-one _ _ _ _ w);
       phf-choose-at-most = λ m ps folds cut. choose-obeys m ps folds (AtMost cut);
@@ -245,6 +257,7 @@ demand-one =
       phf-reduce = λ file out new r h w. made-obeys (reduceCauses file out) _ reducedFields r (new ∷ []) _ _ h (lent-one _ _ _ _ w);
       phf-same = λ first second r h. made-obeys (compareCauses first second) _ comparedFields r [] [] [] h (nothing-lent _);
       phf-bounds-from-p = from-p-obeys;
+      phf-hybrid = λ file path ps level values new r h w. path-obeys _ path [] curvedFields _ (λ n some. curve-refusal-fields path n) r _ _ _ h (lent-one _ _ values new w);
       check = λ file r h. remade-obeys (fileCauses file) _ report checkedOf checked-remade r [] [] [] h (nothing-lent (fileCauses file));
       parents = λ file out new r h w. remade-obeys (parentsCauses file out) _ report checkedOf checked-remade r (new ∷ []) _ _ h (lent-one _ _ _ _ w);
       bound = λ file selection taken new r h w. remade-obeys (selectionCauses file selection taken) _ reportBound boundedOf bounded-remade r (new ∷ []) _ _ h (lent-one _ _ _ _ w);
@@ -255,8 +268,10 @@ demand-one =
       reduce = λ file out new r h w. remade-obeys (reduceCauses file out) _ reportReduced reducedOf reduced-remade r (new ∷ []) _ _ h (lent-one _ _ _ _ w);
       same = λ first second r h. rw (← yes-or-no (sameList (reducedFile first) (reducedFile second))) (remade-obeys (compareCauses first second) _ reportCompared comparedOf compared-remade r [] [] [] h (nothing-lent _));
       bounds-from-p = from-p-obeys;
+      hybrid = λ file path ps level values new r h d w. path-obeys _ path [] curvedBy _ (curve-refusal path) r _ _ _ (curve-told _ path r h d) (lent-one _ _ values new w);
       curve-place = λ file path values marks. place-with-13 file path _ (omega arith);
       cut-place = λ file path a b. place-with-13 file path _ (omega arith);
+      hybrid-place = λ file path ps level room. place-with-13 file path _ (omega arith);
       only-place = only-first;
       regions-accepted = part-of-accepted;
       regions-refused = part-of-refused;

@@ -1,16 +1,18 @@
 -- What the calls of the C interface promise, defined from their inputs. What they leave in lent lists is promised in the words of
--- the libraries (`TakenWrites`, `ChooseWrites`, `CurveValuesWrites`, `CurveMarksWrites`, `ReduceWrites`, `FromPWrites`), and so are the
--- answers of a choice and of bounds from p-values (`ChooseAnswers`, `FromPAnswers`), which are a number there too. The theorem of demand 1 (`DemandOne`) rests on these promises.
+-- the libraries (`TakenWrites`, `ChooseWrites`, `CurveValuesWrites`, `CurveMarksWrites`, `ReduceWrites`, `FromPWrites`, `HybridWrites`),
+-- and so are the answers of a choice and of bounds from p-values (`ChooseAnswers`, `FromPAnswers`), which are a number there too. The
+-- theorem of demand 1 (`DemandOne`) rests on these promises.
 use Prim.Native.Nat.{ℕ}
 use mathlib.Core.List.{List, [], _∷_}
 use mathlib.Core.Path.{_≡_}
-use lib.ListN.{take, drop}
+use lib.ListN.{length, take, drop}
 use Rattle.reader.specs.Family.{familyOf}
 use Rattle.reader.specs.Calls.{answer, checked, regionPart}
 use Rattle.bounds.specs.Selections.{boundOf}
 use Rattle.bounds.specs.Curves.{cutOf}
 use Rattle.bounds.specs.Calls.{selectionCauses, curveCauses, cutCauses, pathAnswer}
 use Rattle.reduction.specs.Calls.{reduceCauses, reducedCounts, compareCauses, comparison}
+use Rattle.pvalues.specs.Calls.{hybridCauses}
 use Rattle.phf.specs.Fields.{checkedFields, partFields, boundedFields, curvedFields, cuttingFields, reducedFields, comparedFields}
 use Rattle.phf.specs.declared.PhfChecked.{PhfChecked}
 use Rattle.phf.specs.declared.PhfPart.{PhfPart}
@@ -46,3 +48,6 @@ PhfReduceAnswers file out r = r ≡ reducedFields (answer (reduceCauses file out
 
 abbrev pub PhfSameAnswers : List ℕ → List ℕ → PhfCompared → Type 0
 PhfSameAnswers first second r = r ≡ comparedFields (answer (compareCauses first second) (comparison first second))
+
+abbrev pub PhfHybridAnswers : List ℕ → List ℕ → List ℕ → ℕ → List ℕ → PhfCurved → Type 0
+PhfHybridAnswers file path ps level values r = r ≡ curvedFields (pathAnswer (hybridCauses file path ps level (length values)) path [])

@@ -8,12 +8,14 @@ use reader::Checked;
 use reduction::Compared;
 use reduction::ReducedFile;
 use volcano::Rule;
-ghost use Rattle.bounds.specs.Calls.{TakenWrites, CurveValuesWrites, CurveMarksWrites};
-ghost use Rattle.pvalues.specs.Calls.{FromPAnswers, FromPWrites};
+ghost use mathlib.Core.Path.{_≡_};
+ghost use Rattle.bounds.specs.Calls.{reportCurve, TakenWrites, CurveValuesWrites, CurveMarksWrites};
+ghost use Rattle.pvalues.specs.Calls.{FromPAnswers, FromPWrites, HybridWrites};
 ghost use Rattle.reduction.specs.Calls.{ReduceWrites};
 ghost use Rattle.volcano.specs.Calls.{ChooseAnswers, ChooseWrites};
 ghost use Rattle.volcano.specs.declared.Rule.the-variants.{AtMost, Between, Volcano};
-ghost use Rattle.phf.specs.Calls.{PhfCheckAnswers, PhfRegionsAnswers, PhfRegionsPlaced, PhfBoundAnswers, PhfCurveAnswers, PhfCutAnswers, PhfReduceAnswers, PhfSameAnswers};
+ghost use Rattle.phf.specs.Calls.{PhfCheckAnswers, PhfRegionsAnswers, PhfRegionsPlaced, PhfBoundAnswers, PhfCurveAnswers, PhfCutAnswers, PhfReduceAnswers, PhfSameAnswers, PhfHybridAnswers};
+ghost use Rattle.phf.specs.Fields.{curvedFields};
 
 #[repr(C)]
 pub struct PhfChecked {
@@ -121,6 +123,20 @@ pub extern "C" fn phf_bound(file: &[u8], selection: &[u8], taken: &mut [u8]) -> 
     }
 }
 
+// The answer of a call that writes a curve.
+fn curved(answer: Curved) -> PhfCurved
+    ensures { λ r. ⌜ r ≡ curvedFields (reportCurve answer) ⌝ }
+{
+    match answer {
+        Curved::Written => PhfCurved {
+            number: 0,
+            place: 0,
+        },
+        Curved::Refused(number) => PhfCurved { number, place: 0 },
+        Curved::Repeated(place) => PhfCurved { number: 13, place },
+    }
+}
+
 // The curve along a path and its marks.
 #[no_mangle]
 pub extern "C" fn phf_curve(
@@ -133,14 +149,7 @@ pub extern "C" fn phf_curve(
     ensures { λ _. ⌜ CurveValuesWrites (now (file .entry)) (now (path .entry)) (now (values .entry)) (now (marks .entry)) (now (values .exit)) ⌝ }
     ensures { λ _. ⌜ CurveMarksWrites (now (file .entry)) (now (path .entry)) (now (values .entry)) (now (marks .entry)) (now (marks .exit)) ⌝ }
 {
-    match bounds::curve(file, path, values, marks) {
-        Curved::Written => PhfCurved {
-            number: 0,
-            place: 0,
-        },
-        Curved::Refused(number) => PhfCurved { number, place: 0 },
-        Curved::Repeated(place) => PhfCurved { number: 13, place },
-    }
+    curved(bounds::curve(file, path, values, marks))
 }
 
 // The cut at q = a / b: the largest t at which entry t times b is at most a times t.
@@ -259,4 +268,20 @@ pub extern "C" fn phf_bounds_from_p(
     ensures { λ _. ⌜ FromPWrites (now (file .entry)) (now («p_values» .entry)) «deviation_squared» (now (out .entry)) (now (out .exit)) ⌝ }
 {
     pvalues::bounds_from_p(file, p_values, deviation_squared, out)
+}
+
+// The hybrid curve along a path, without marks: at each entry the smaller of the region bound and the Simes bound at the given level.
+// p-values and level are whole millionths.
+#[no_mangle]
+pub extern "C" fn phf_hybrid(
+    file: &[u8],
+    path: &[u16],
+    p_values: &[u32],
+    level: u32,
+    values: &mut [u16],
+) -> PhfCurved
+    ensures { λ r. ⌜ PhfHybridAnswers (now (file .entry)) (now (path .entry)) (now («p_values» .entry)) level (now (values .entry)) r ⌝ }
+    ensures { λ _. ⌜ HybridWrites (now (file .entry)) (now (path .entry)) (now («p_values» .entry)) level (now (values .entry)) (now (values .exit)) ⌝ }
+{
+    curved(pvalues::hybrid(file, path, p_values, level, values))
 }
