@@ -2,6 +2,7 @@
 use Prim.Native.Nat.{ℕ, zero, suc, _+_, _-_, _*_, _≤_, min}
 use mathlib.Core.Bool.{Bool, not, cond, _&&_, _||_}
 use mathlib.Core.List.{List}
+use mathlib.Core.Path.{_≡_}
 use lib.ListN.{length, getD, take}
 use lib.Dec.{eqb, ltb}
 use Rattle.reader.specs.Lists.{tabulate}
@@ -38,6 +39,13 @@ simes m ps level S = cond (eqb (card m S) 0) 0 (leastUpTo m (simesAt m ps level 
 -- from 1 to m.
 abbrev pub SimesAdmissible : ℕ → List ℕ → ℕ → Peptides → Type 0
 SimesAdmissible m ps level A = (k : ℕ) → 1 ≤ k → k ≤ m → card m (λ p. A p && not (countedAt m ps level k p)) ≤ k - 1
+
+-- Formula (3) of source 000 for Simes's own regions: v is the largest count of S in any set that is admissible for them.
+pub record IsSimesLargest (m : ℕ) (ps : List ℕ) (level : ℕ) (S : Peptides) (v : ℕ) : Type 0 where
+  pub witness : Peptides
+  pub admissible : SimesAdmissible m ps level witness
+  pub reached : card m (λ p. witness p && S p) ≡ v
+  pub atMost : (A : Peptides) → SimesAdmissible m ps level A → card m (λ p. A p && S p) ≤ v
 
 -- entry t of the hybrid curve: the smaller of the region bound and the Simes bound of the first t peptides
 unfoldable pub hybridEntry : Family → List ℕ → ℕ → List ℕ → ℕ → ℕ
