@@ -15,8 +15,8 @@ use Rattle.pvalues.specs.FromP.{million}
 unfoldable pub pValueOf : List ℕ → ℕ → ℕ
 pValueOf ps peptide = getD ps (peptide - 1) 0
 
--- A peptide is counted at k if its p times m is greater than the level times k. One that is equal to its threshold is not: sources 000
--- and 002 differ there, and (7) of 000 holds.
+-- A peptide is counted at k if its p times m is greater than the level times k. One that is equal to its threshold is not: the sources
+-- differ there, and (7) of the first holds.
 unfoldable pub countedAt : ℕ → List ℕ → ℕ → ℕ → Peptides
 countedAt m ps level k peptide = ltb (level * k) (pValueOf ps peptide * m)
 
@@ -30,17 +30,17 @@ leastUpTo zero f = 0
 leastUpTo (suc zero) f = f 1
 leastUpTo (suc (suc n)) f = min (leastUpTo (suc n) f) (f (suc (suc n)))
 
--- The Simes bound of a selection: 0 if it is empty, else the least over k from 1 to m. It is V_Simes of source 000, (7), with the
--- level for α.
+-- The Simes bound of a selection: 0 if it is empty, else the least over k from 1 to m. It is V_Simes of the source, (7), with the level
+-- for α.
 unfoldable pub simes : ℕ → List ℕ → ℕ → Peptides → ℕ
 simes m ps level S = cond (eqb (card m S) 0) 0 (leastUpTo m (simesAt m ps level S))
 
--- Simes's own regions, by source 000 above (7): A has at most k - 1 of the peptides with p at or under the threshold of k, for every k
--- from 1 to m.
+-- A set that is admissible for Simes's own regions, those of the source above (7): it has at most k - 1 of the peptides with p at or
+-- under the threshold of k, for every k from 1 to m.
 abbrev pub SimesAdmissible : ℕ → List ℕ → ℕ → Peptides → Type 0
 SimesAdmissible m ps level A = (k : ℕ) → 1 ≤ k → k ≤ m → card m (λ p. A p && not (countedAt m ps level k p)) ≤ k - 1
 
--- Formula (3) of source 000 for Simes's own regions: v is the largest count of S in any set that is admissible for them.
+-- Formula (3) for Simes's own regions: v is the largest count of S in any set that is admissible for them.
 pub record IsSimesLargest (m : ℕ) (ps : List ℕ) (level : ℕ) (S : Peptides) (v : ℕ) : Type 0 where
   pub witness : Peptides
   pub admissible : SimesAdmissible m ps level witness

@@ -2,9 +2,10 @@
 // the last free slot up to that; the Simes bound of those passed is the number of slots taken.
 use crate::ordering::list_numbers;
 use crate::slots::take_slot;
+use reader::bytes::smaller;
 ghost use mathlib.Core.Path.{_≡_};
 ghost use mathlib.Core.List.{_++_};
-ghost use Prim.Native.Nat.{_+_, _<_, _≤_, min};
+ghost use Prim.Native.Nat.{_+_, _<_, _≤_};
 ghost use lib.ListN.{length, drop};
 ghost use Rattle.reader.specs.Lists.{tabulate};
 ghost use Rattle.pvalues.specs.Private.Simes.{lastCounted, SimesInputs, smallerAt};
@@ -22,12 +23,6 @@ fn last_counted(m: u16, level: u32, p: u32) -> u16
     }
     let last = (product - 1) / level;
     if last < m as u32 { last as u16 } else { m }
-}
-
-fn smaller(a: u16, b: u16) -> u16
-    ensures { λ r. ⌜ r ≡ min a b ⌝ }
-{
-    if a < b { a } else { b }
 }
 
 // Writes at each entry the smaller of the curve's value and the Simes bound.
