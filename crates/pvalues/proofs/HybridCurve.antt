@@ -36,7 +36,7 @@ use Rattle.pvalues.specs.FromP.{cause20}
 use Rattle.pvalues.specs.Hybrid.{countedAt, simesAt, leastUpTo, simes, SimesAdmissible, hybridEntry, hybridValues}
 use Rattle.pvalues.specs.Calls.{hybridCauses, HybridDeclines}
 use Rattle.pvalues.specs.AcceptedCalls.{HybridCall}
-use Rattle.pvalues.proofs.Judging.{hybrid-clear}
+use Rattle.pvalues.proofs.HybridCalls.{hybrid-clear}
 use Rattle.pvalues.proofs.Theory.SimesLaws.{simes-least, simes-reached, simes-size, simes-none, simes-few, simes-mono, simes-same, simes-one-more, simes-level, simes-raised, simes-holds}
 
 -- the Simes bound of the first t peptides

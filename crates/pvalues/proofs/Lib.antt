@@ -5,6 +5,7 @@ pub mod Finding
 pub mod NewFile
 pub mod SlotLaws
 pub mod Judging
+pub mod HybridCalls
 pub mod BoundsFromP
 pub mod HybridCurve
 pub mod Examples

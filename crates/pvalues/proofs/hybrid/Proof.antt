@@ -13,7 +13,7 @@ use Rattle.bounds.specs.declared.Curved.{Curved}
 use Rattle.bounds.proofs.Calls.PathLaws.{input-few}
 use Rattle.bounds.proofs.Calls.Answering.{curve-judges}
 use Rattle.pvalues.specs.Private.Simes.{SimesInputs}
-use Rattle.pvalues.proofs.Judging.{HybridDone, hybrid-known, hybrid-refuses, hybrid-declines, hybrid-writes, region-curve}
+use Rattle.pvalues.proofs.HybridCalls.{HybridDone, hybrid-known, hybrid-refuses, hybrid-declines, hybrid-writes, region-curve}
 use borrow.Author.Needs.{needs}
 use Rattle.pvalues.proofs.hybrid.Statement.{statement}
 use Rattle.pvalues.proofs.hybrid.Tie as tie
