@@ -33,11 +33,12 @@ use Rattle.bounds.proofs.Theory.Marks.{among-next, stops, entry-next, entry-sta
 use Rattle.bounds.proofs.Theory.CurveTheorem.{value-at, curve-theorem}
 use Rattle.bounds.proofs.DemandTwo.{peptidesIn, rangesIn, value-left}
 use Rattle.pvalues.specs.FromP.{cause20}
-use Rattle.pvalues.specs.Hybrid.{countedAt, simesAt, leastUpTo, simes, SimesAdmissible, hybridEntry, hybridValues}
+use Rattle.pvalues.specs.Hybrid.{countedAt, simesAt, leastUpTo, simes, SimesAdmissible, IsSimesLargest, hybridEntry, hybridValues}
 use Rattle.pvalues.specs.Calls.{hybridCauses, HybridDeclines}
 use Rattle.pvalues.specs.AcceptedCalls.{HybridCall}
 use Rattle.pvalues.proofs.HybridCalls.{hybrid-clear}
 use Rattle.pvalues.proofs.Theory.SimesLaws.{simes-least, simes-reached, simes-size, simes-none, simes-few, simes-mono, simes-same, simes-one-more, simes-level, simes-raised, simes-holds}
+use Rattle.pvalues.proofs.Theory.SimesLargest.{simes-largest}
 
 -- the Simes bound of the first t peptides
 abbrev pub simesOf : (f : AcceptedFile) → HybridCall f → ℕ → ℕ
@@ -95,8 +96,9 @@ pub record HybridCurve : Type 0 where
   pub simes-grows : (m : ℕ) (ps : List ℕ) (level : ℕ) (S X : Peptides) → Subset m S X → simes m ps level S ≤ simes m ps level X
   pub simes-one-more : (m : ℕ) (ps : List ℕ) (level : ℕ) (q : ℕ) (S : Peptides) → simes m ps level (adding q S) ≤ simes m ps level S + 1
   pub simes-same : (m : ℕ) (ps : List ℕ) (level : ℕ) (S X : Peptides) → SameSet m S X → simes m ps level S ≡ simes m ps level X
-  -- A set that is admissible for Simes's own regions has no more of the selection.
-  pub simes-holds : (m : ℕ) (ps : List ℕ) (level : ℕ) (S A : Peptides) → SimesAdmissible m ps level A → card m (λ p. A p && S p) ≤ simes m ps level S
+  -- It is formula (3) for Simes's own regions: the largest count of the selection in any set that has at most k - 1 of the peptides at or
+  -- under the threshold of k, for every k.
+  pub simes-largest : (m : ℕ) (ps : List ℕ) (level : ℕ) (S : Peptides) → IsSimesLargest m ps level S (simes m ps level S)
 
 -- The Simes bound along a path.
 
@@ -235,5 +237,5 @@ hybrid-curve =
       simes-grows = simes-mono;
       simes-one-more = simes-one-more;
       simes-same = simes-same;
-      simes-holds = simes-holds;
+      simes-largest = simes-largest;
     }

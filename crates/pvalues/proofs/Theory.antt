@@ -7,4 +7,5 @@ pub mod LoweredIsZ
 pub mod ZBetween
 pub mod Least
 pub mod SimesLaws
+pub mod SimesLargest
 pub mod Slots
