@@ -4,7 +4,8 @@
  * A family says, for each of a number of nested or disjoint regions of peptides, that at most z of the region's
  * peptides are false. These calls check such a family, compute its z from p-values, tell how many of a selection of
  * peptides can be false at most, make such a selection from p-values and fold changes, draw that number along a ranking,
- * cut the ranking at a wanted fraction, bring a family into its shortest form, and compare two families.
+ * cut the ranking at a wanted fraction, draw the hybrid of that number and of the Simes bound from p-values, bring a family
+ * into its shortest form, and compare two families.
  *
  * Every function here is proved: for all inputs, well formed or not, it returns and writes what is said below.
  * What the proofs take for granted is the usual contract of C:
@@ -26,6 +27,7 @@
  *     phf_bound                                                     32 KB
  *     phf_curve                                                     44 KB
  *     phf_cut                                                       48 KB
+ *     phf_hybrid                                                    56 KB
  *     phf_reduce                                                   156 KB
  *     phf_same                                                     268 KB
  *     phf_choose_at_most, phf_choose_between, phf_choose_volcano     4 KB
@@ -85,7 +87,7 @@ extern "C" {
  * others may be added: MINOR rises then. PATCH rises when all of these stay as they are.
  */
 #define PHF_VERSION_MAJOR 0
-#define PHF_VERSION_MINOR 13
+#define PHF_VERSION_MINOR 14
 #define PHF_VERSION_PATCH 0
 
 /* The largest sizes: peptides, leaves, regions, and bytes of a family file. */
@@ -144,7 +146,9 @@ enum phf_number {
     /* a p-value in millionths is over 1000000 */
     PHF_BAD_P_VALUE = 21,
     /* deviation_squared is over 100000000 */
-    PHF_BAD_DEVIATION = 22
+    PHF_BAD_DEVIATION = 22,
+    /* level is 0 or over 1000000 */
+    PHF_BAD_LEVEL = 23
 };
 
 /* What phf_same adds to a number of its second file: PHF_OF_SECOND_FILE + PHF_BAD_LAYOUT is 105. */
@@ -280,6 +284,25 @@ typedef struct phf_cutting {
 phf_cutting phf_cut(const uint8_t *file, size_t file_len,
                     const uint16_t *path, size_t path_len,
                     uint16_t a, uint16_t b);
+
+/*
+ * The hybrid curve along a ranking: at each t the smaller of two bounds of the first t peptides, that of the regions and the
+ * Simes bound. Causes 1 to 13, 16, 20, 21, 23, in this order; path and `place` as in phf_curve.
+ *
+ * p:      m p-values in whole millionths, 0 to 1000000; p[i] is that of peptide i + 1.
+ * level:  the risk level of the Simes bound in millionths, 1 to 1000000: 50000 for the level 0.05. It is that of the Simes
+ *         bound by itself.
+ * values: at least T + 1 numbers; values[t] becomes the smaller of what phf_curve gives there and of the Simes bound of the
+ *         first t peptides of the path, for t from 0 to T, and the rest is unchanged. There are no marks.
+ *
+ * The Simes bound of a selection is 0 if nothing is selected. Else it is the least of m numbers, one for each k from 1 to m:
+ * k - 1 plus the count of the selected peptides with p * m > level * k. One with p * m = level * k is not counted.
+ */
+phf_curved phf_hybrid(const uint8_t *file, size_t file_len,
+                      const uint16_t *path, size_t path_len,
+                      const uint32_t *p, size_t p_len,
+                      uint32_t level,
+                      uint16_t *values, size_t values_len);
 
 /*
  * The reduced file of a family: the one file that all families reduce to which have the same m and, for every selection,

@@ -140,6 +140,24 @@ pub fn cut(file: &[u8], path: &[u16], a: u16, b: u16) -> u16 {
     answer.number
 }
 
+/// The hybrid curve with `room` places for values; the number.
+pub fn hybrid(file: &[u8], path: &[u16], p_values: &[u32], level: u32, room: usize) -> u16 {
+    let before = before_u16(room);
+    let mut values = before.clone();
+    let answer = guarded::hybrid(file, path, p_values, level, &mut values);
+    match reference::hybrid(file, path, p_values, level, room) {
+        Ok(entries) => {
+            assert_eq!((answer.number, answer.place), (0, 0));
+            assert_eq!(values, with_front(&entries, &before));
+        }
+        Err(refusal) => {
+            assert_eq!((answer.number, answer.place), told(refusal));
+            assert_eq!(values, before);
+        }
+    }
+    answer.number
+}
+
 /// The number and the place of a refusal.
 fn told(refusal: reference::Refusal) -> (u16, u16) {
     (refusal.number, refusal.place)

@@ -65,6 +65,30 @@ pub fn cut(file: &[u8], path: &[u16], a: u16, b: u16) -> Cutting {
     })
 }
 
+pub fn hybrid(
+    file: &[u8],
+    path: &[u16],
+    p_values: &[u32],
+    level: u32,
+    values: &mut [u16],
+) -> Curved {
+    reading(file, |file| {
+        reading(path, |path| {
+            reading(p_values, |p| {
+                writing(values, |values| phf::hybrid(file, path, p, level, values))
+            })
+        })
+    })
+}
+
+/// The hybrid curve of accepted inputs, in room just as long as it.
+pub fn hybrid_of(file: &[u8], path: &[u16], p_values: &[u32], level: u32) -> Vec<u16> {
+    let mut values = vec![9999; path.len() + 1];
+    let answer = hybrid(file, path, p_values, level, &mut values);
+    assert_eq!((answer.number, answer.place), (0, 0));
+    values
+}
+
 pub fn reduce(file: &[u8], out: &mut [u8]) -> Reduced {
     reading(file, |file| writing(out, |out| phf::reduce(file, out)))
 }

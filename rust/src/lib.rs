@@ -11,4 +11,5 @@ pub mod phf;
 pub mod programs;
 pub mod random;
 pub mod reference;
+pub mod searches;
 pub mod stack;

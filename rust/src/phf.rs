@@ -91,6 +91,17 @@ extern "C" {
         a: u16,
         b: u16,
     ) -> Cutting;
+    fn phf_hybrid(
+        file: *const u8,
+        file_len: usize,
+        path: *const u16,
+        path_len: usize,
+        p: *const u32,
+        p_len: usize,
+        level: u32,
+        values: *mut u16,
+        values_len: usize,
+    ) -> Curved;
     fn phf_reduce(file: *const u8, file_len: usize, out: *mut u8, out_len: usize) -> Reduced;
     fn phf_same(
         first: *const u8,
@@ -187,6 +198,28 @@ pub fn curve(file: &[u8], path: &[u16], values: &mut [u16], marks: &mut [u8]) ->
 
 pub fn cut(file: &[u8], path: &[u16], a: u16, b: u16) -> Cutting {
     unsafe { phf_cut(file.as_ptr(), file.len(), path.as_ptr(), path.len(), a, b) }
+}
+
+pub fn hybrid(
+    file: &[u8],
+    path: &[u16],
+    p_values: &[u32],
+    level: u32,
+    values: &mut [u16],
+) -> Curved {
+    unsafe {
+        phf_hybrid(
+            file.as_ptr(),
+            file.len(),
+            path.as_ptr(),
+            path.len(),
+            p_values.as_ptr(),
+            p_values.len(),
+            level,
+            values.as_mut_ptr(),
+            values.len(),
+        )
+    }
 }
 
 pub fn reduce(file: &[u8], out: &mut [u8]) -> Reduced {

@@ -643,3 +643,51 @@ pub fn bounds_from_p(
     }
     Ok(with_z_from(&family, p_values, deviation_squared))
 }
+
+// The hybrid curve: causes 1 to 13, 16, 20, 21 and 23.
+
+/// The Simes bounds of the first t peptides of a path, for t from 0 to its length: 0 for none, else the least over k from 1 to m
+/// of k - 1 plus the count of these peptides with p times m greater than the level times k. The counts for the first t are those
+/// for one less and, at each k, one more if the last of them is counted there.
+pub fn simes(p_values: &[u32], level: u32, path: &[u16]) -> Vec<u16> {
+    let m = p_values.len() as u64;
+    let mut bounds = vec![0];
+    let mut counts: Vec<(u64, u64)> = (1..=m).map(|k| (k, 0)).collect();
+    for peptide in path {
+        let p = p_values[*peptide as usize - 1] as u64;
+        for (k, count) in &mut counts {
+            *count += (p * m > level as u64 * *k) as u64;
+        }
+        let least = counts.iter().map(|(k, count)| k - 1 + count).min();
+        bounds.push(least.unwrap() as u16);
+    }
+    bounds
+}
+
+/// The T + 1 values.
+pub fn hybrid(
+    file: &[u8],
+    path: &[u16],
+    p_values: &[u32],
+    level: u32,
+    room: usize,
+) -> Result<Vec<u16>, Refusal> {
+    let family = check(file).map_err(refusal)?;
+    check_path(family.peptides, path)?;
+    if room < path.len() + 1 {
+        return Err(refusal(16));
+    }
+    if p_values.len() != family.peptides as usize {
+        return Err(refusal(20));
+    }
+    if p_values.iter().any(|p| *p > 1_000_000) {
+        return Err(refusal(21));
+    }
+    if level == 0 || level > 1_000_000 {
+        return Err(refusal(23));
+    }
+    let entries = Forest::of(&family).curve(family.peptides as usize, path);
+    let bounds = simes(p_values, level, path);
+    let smaller = |(entry, bound): (&u16, &u16)| *entry.min(bound);
+    Ok(entries.iter().zip(&bounds).map(smaller).collect())
+}

@@ -129,11 +129,11 @@ pub fn every_call<'a>(file: &'a [u8], path: &'a [u16]) -> Vec<Call<'a>> {
     let empty = |file| (phf::regions(file).length == 0) as u16;
     add("phf_regions", 28, Box::new(move || empty(file)));
     let p_values: Vec<u32> = (0..m as u32).map(|i| 240 * i).collect();
-    let mut bounded = out.clone();
+    let (p, mut bounded) = (p_values.clone(), out.clone());
     add(
         "phf_bounds_from_p",
         84,
-        Box::new(move || phf::bounds_from_p(file, &p_values, DEVIATION_SQUARED, &mut bounded)),
+        Box::new(move || phf::bounds_from_p(file, &p, DEVIATION_SQUARED, &mut bounded)),
     );
     add(
         "phf_bound",
@@ -149,6 +149,12 @@ pub fn every_call<'a>(file: &'a [u8], path: &'a [u16]) -> Vec<Call<'a>> {
         "phf_cut",
         48,
         Box::new(|| phf::cut(file, path, 1, 10).number),
+    );
+    let mut smaller = vec![0; 4097];
+    add(
+        "phf_hybrid",
+        56,
+        Box::new(move || phf::hybrid(file, path, &p_values, 50_000, &mut smaller).number),
     );
     add(
         "phf_reduce",

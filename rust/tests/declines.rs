@@ -3,7 +3,7 @@
 use phf_tests::compare;
 use phf_tests::families::{
     all_but_one_empty, chain, damage, eight_peptides, family, file, random_family, DAMAGES,
-    DEVIATION_SQUARED,
+    DEVIATION_SQUARED, EIGHT_P_VALUES,
 };
 use phf_tests::random::{cases, Random};
 use phf_tests::reference::{file_of, Family};
@@ -183,6 +183,8 @@ fn causes_11_to_13_path() {
         let t = path.len();
         let number = compare::curve(&eight, path, t + 1, t);
         assert_eq!(compare::cut(&eight, path, 1, 2), number);
+        let hybrid = compare::hybrid(&eight, path, &EIGHT_P_VALUES, 50_000, t + 1);
+        assert_eq!(hybrid, number);
         number
     };
     assert_eq!(curve(&[]), 0);
@@ -248,6 +250,10 @@ fn cause_16_outputs() {
         compare::bounds_from_p(&loose, &p_values, 0, loose.len() - 1),
         16
     );
+    assert_eq!(compare::hybrid(&loose, &[3, 1], &p_values, 50_000, 3), 0);
+    assert_eq!(compare::hybrid(&loose, &[3, 1], &p_values, 50_000, 2), 16);
+    assert_eq!(compare::hybrid(&loose, &[], &p_values, 50_000, 1), 0);
+    assert_eq!(compare::hybrid(&loose, &[], &p_values, 50_000, 0), 16);
 }
 
 #[test]
@@ -310,6 +316,10 @@ fn damaged_files() {
             &seen,
             compare::bounds_from_p(&file, &p_values, DEVIATION_SQUARED, 2000),
         );
+        note(
+            &seen,
+            compare::hybrid(&file, &path, &p_values, 50_000, m + 1),
+        );
         note(&seen, compare::same(&file, &whole).0);
         note(&seen, compare::same(&whole, &file).0);
         note(&seen, compare::same(&eight, &file).0);
@@ -320,7 +330,7 @@ fn damaged_files() {
     }
 }
 
-/// Whole files with bad paths, selections, fractions, p-values and outputs, also several at once.
+/// Whole files with bad paths, selections, fractions, p-values, levels and outputs, also several at once.
 #[test]
 fn damaged_inputs() {
     let seen = Seen::default();
@@ -381,8 +391,13 @@ fn damaged_inputs() {
             &seen,
             compare::bounds_from_p(&file, &p_values, constant, room),
         );
+        let level = [0, 1, 1_000_000, 1_000_001][random.below(4)];
+        note(
+            &seen,
+            compare::hybrid(&file, &path, &p_values, level, values),
+        );
     });
-    for number in [0, 11, 12, 13, 14, 15, 16, 20, 21, 22] {
+    for number in [0, 11, 12, 13, 14, 15, 16, 20, 21, 22, 23] {
         let times = seen.borrow().get(&number).copied().unwrap_or(0);
         assert!(times >= 20, "number {number} was seen {times} times");
     }
@@ -401,5 +416,6 @@ fn random_bytes() {
         compare::curve(&file, &[1, 2], 3, 2);
         compare::bound(&file, &[1, 0, 1], 9);
         compare::bounds_from_p(&file, &[5, 0, 1_000_000], DEVIATION_SQUARED, 130);
+        compare::hybrid(&file, &[1, 2], &[5, 0, 1_000_000], 50_000, 3);
     });
 }

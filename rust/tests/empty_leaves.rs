@@ -4,9 +4,9 @@
 use phf_tests::compare;
 use phf_tests::families::{
     all_but_one_empty, binary_tree_on, eight_peptides, file, random_family, Bounds,
-    DEVIATION_SQUARED,
+    DEVIATION_SQUARED, EIGHT_P_VALUES,
 };
-use phf_tests::guarded::{self, curve_of, reduced};
+use phf_tests::guarded::{self, curve_of, hybrid_of, reduced};
 use phf_tests::phf;
 use phf_tests::random::Random;
 use phf_tests::reference::{file_of, pieces, Family, Piece};
@@ -43,6 +43,9 @@ fn all_calls(file: &[u8]) {
         compare::bounds_from_p(file, &p_values, DEVIATION_SQUARED, file.len()),
         0
     );
+    for level in [1, 200, 50_000] {
+        assert_eq!(compare::hybrid(file, &path, &p_values, level, m + 1), 0);
+    }
 }
 
 #[test]
@@ -68,6 +71,9 @@ fn one_peptide_in_the_most_leaves() {
         assert_eq!(curve_of(&file, &[1]), (vec![0, 1], vec![1]));
         assert_eq!(guarded::cut(&file, &[1], 1, 1).cut, 1);
         assert_eq!(guarded::cut(&file, &[1], 1, 2).cut, 0);
+        // with m = 1 a peptide is counted if its p is over the level
+        assert_eq!(hybrid_of(&file, &[1], &[50_001], 50_000), [0, 1]);
+        assert_eq!(hybrid_of(&file, &[1], &[50_000], 50_000), [0, 0]);
         assert_eq!(reduced(&file), plain);
         assert!(are_the_same(&file, &plain));
     }
@@ -107,12 +113,14 @@ fn the_most_regions_over_one_peptide() {
         let free = file_of(&largest_tree(leaf, 1, 1, 0));
         assert_eq!(bound_of_all(&free), (1, vec![0; 8191]));
         assert_eq!(curve_of(&free, &[1]), (vec![0, 1], vec![1]));
+        assert_eq!(hybrid_of(&free, &[1], &[50_001], 50_000), [0, 1]);
         assert_eq!(reduced(&free), file(&[1], &[]));
         // the inside total of the innermost is 1, of those around it 0
         let tree = largest_tree(leaf, 0, 0, 7);
         let whole = file_of(&tree);
         assert_eq!(bound_of_all(&whole), (0, taken_only(&tree, leaf, 0)));
         assert_eq!(curve_of(&whole, &[1]), (vec![0, 0], vec![0]));
+        assert_eq!(hybrid_of(&whole, &[1], &[50_001], 50_000), [0, 0]);
         assert_eq!(reduced(&whole), dead);
         // the innermost lets the peptide pass, and the region just around it does not
         let tree = largest_tree(leaf, 1, 0, 7);
@@ -236,7 +244,7 @@ fn the_leaf_of_a_peptide_among_empty_ones() {
 }
 
 /// The eight-peptide family with five empty leaves and two regions over such: its leaves 1 to 4 are 2, 5, 6 and 8 here. The
-/// values are E1, E2, E4 and E5 of the scope document.
+/// values are E1, E2, E4 and E5 of the scope document, and its hybrid curves.
 #[test]
 fn the_eight_peptides_among_empty_leaves() {
     let strewn = file(
@@ -263,6 +271,9 @@ fn the_eight_peptides_among_empty_leaves() {
     assert_eq!(bound_of_all(&strewn), (4, vec![0, 0, 0, 1, 0, 0, 1]));
     assert_eq!(guarded::cut(&strewn, &path, 1, 2).cut, 8);
     assert_eq!(guarded::cut(&strewn, &path, 2, 5).cut, 1);
+    let hybrid = |level| hybrid_of(&strewn, &path, &EIGHT_P_VALUES, level);
+    assert_eq!(hybrid(50_000), [0, 0, 0, 0, 0, 1, 2, 3, 3]);
+    assert_eq!(hybrid(1_000_000), [0, 0, 0, 0, 0, 0, 1, 2, 2]);
     let eight = file_of(&eight_peptides());
     assert_eq!(reduced(&strewn), reduced(&eight));
     assert!(are_the_same(&strewn, &eight));

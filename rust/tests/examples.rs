@@ -1,9 +1,9 @@
-//! The worked examples: the eight-peptide family of the scope document, E1 to E10, and the published example of
-//! section 3.3 of "Fast confidence bounds for the false discovery proportion over a path of hypotheses". What is expected
+//! The worked examples: the eight-peptide family of the scope document, E1 to E10, its hybrid curves, and the published example
+//! of section 3.3 of "Fast confidence bounds for the false discovery proportion over a path of hypotheses". What is expected
 //! here was copied from these two texts.
 
-use phf_tests::families::{eight_peptides, file};
-use phf_tests::guarded::{self, curve_of, reduced};
+use phf_tests::families::{eight_peptides, file, EIGHT_P_VALUES};
+use phf_tests::guarded::{self, curve_of, hybrid_of, reduced};
 use phf_tests::reference::file_of;
 
 fn hexadecimal(text: &str) -> Vec<u8> {
@@ -74,6 +74,18 @@ fn e8_to_e10_one_leaf() {
     assert_eq!(curve_of(&file(&[1], &[(1, 1, 0)]), &[1]).0, [0, 0]);
     let loose = file(&[3], &[(1, 1, 5)]);
     assert_eq!(reduced(&loose), plain);
+}
+
+#[test]
+fn the_hybrid_curves() {
+    let file = file_of(&eight_peptides());
+    for (level, expected) in [
+        (50_000, [0, 0, 0, 0, 0, 1, 2, 3, 3]),
+        (1_000_000, [0, 0, 0, 0, 0, 0, 1, 2, 2]),
+    ] {
+        let values = hybrid_of(&file, &EIGHT_PATH, &EIGHT_P_VALUES, level);
+        assert_eq!(values, expected);
+    }
 }
 
 // Example 2.2 labelled as in Example 2.3: the leaves P1 to P8 and the regions with the values of section 3.3.

@@ -7,15 +7,20 @@ use phf_tests::guarded;
 use phf_tests::random::{cases, Random};
 use phf_tests::reference::file_of;
 
-/// What the curve and the cut, with nothing else to decline, answer for a path: the number and the place.
+/// What the curve, the cut and the hybrid curve, with nothing else to decline, answer for a path: the number and the place.
 fn told(file: &[u8], path: &[u16]) -> (u16, u16) {
     let t = path.len();
     let (mut values, mut marks) = (vec![777; t + 1], vec![77; t]);
     let curve = guarded::curve(file, path, &mut values, &mut marks);
     let cut = guarded::cut(file, path, 1, 2);
+    let p_values = vec![40_000; guarded::check(file).peptides as usize];
+    let mut smaller = vec![777; t + 1];
+    let hybrid = guarded::hybrid(file, path, &p_values, 50_000, &mut smaller);
     assert_eq!((curve.number, curve.place), (cut.number, cut.place));
+    assert_eq!(curve, hybrid);
     if curve.number != 0 {
         assert_eq!((values, marks), (vec![777; t + 1], vec![77; t]));
+        assert_eq!(smaller, vec![777; t + 1]);
         assert_eq!(cut.cut, 0);
     }
     (curve.number, curve.place)
@@ -96,7 +101,7 @@ fn before_a_repeat() {
     assert_eq!(told(&[], &[1, 1]), (1, 0));
 }
 
-/// Causes 15 and 16 come after a repeat.
+/// Causes 15, 16, 20, 21 and 23 come after a repeat.
 #[test]
 fn after_a_repeat() {
     let eight = file_of(&eight_peptides());
@@ -110,6 +115,20 @@ fn after_a_repeat() {
         let cut = guarded::cut(&eight, &[1, 2, 1, 2], a, b);
         assert_eq!((cut.number, cut.place, cut.cut), (13, 3, 0));
     }
+    for (p_values, level, room) in [
+        (&[40_000; 8][..], 50_000, 4),
+        (&[40_000; 8], 50_000, 0),
+        (&[40_000; 7], 50_000, 5),
+        (&[1_000_001; 8], 50_000, 5),
+        (&[40_000; 8], 0, 5),
+        (&[40_000; 8], 1_000_001, 5),
+        (&[1_000_001; 9], 0, 0),
+    ] {
+        let mut values = vec![777; room];
+        let hybrid = guarded::hybrid(&eight, &[1, 2, 1, 2], p_values, level, &mut values);
+        assert_eq!((hybrid.number, hybrid.place), (13, 3));
+        assert_eq!(values, vec![777; room]);
+    }
 }
 
 /// Every path of up to six numbers from 0 to 5, of four peptides: against the page's words.
@@ -122,6 +141,9 @@ fn every_short_path() {
             let path: Vec<u16> = (0..t).map(|i| (code / 6usize.pow(i) % 6) as u16).collect();
             let number = compare::curve(&four, &path, path.len() + 1, path.len());
             assert_eq!(compare::cut(&four, &path, 1, 2), number);
+            let p_values = [900_000, 20, 500_000, 7];
+            let hybrid = compare::hybrid(&four, &path, &p_values, 50_000, path.len() + 1);
+            assert_eq!(hybrid, number);
             seen[number as usize] += 1;
         }
     }

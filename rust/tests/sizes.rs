@@ -34,6 +34,12 @@ fn all_calls(random: &mut Random, family: &Family) {
         compare::bounds_from_p(&file, &p_values, DEVIATION_SQUARED, room),
         0
     );
+    let level = [1, 50_000, 1_000_000, random.between(1, 1_000_000)][random.below(4)];
+    let room = t + 1 + random.below(3);
+    assert_eq!(
+        compare::hybrid(&file, &path, &p_values, level as u32, room),
+        0
+    );
 }
 
 #[test]

@@ -58,7 +58,7 @@ fn on_its_stack(name: &str, mut call: impl FnMut() -> u16) -> u16 {
     Stack::new(stated).run(&mut call)
 }
 
-/// Declined calls need no more, here by the causes that are found last: 10 and, of a comparison, 110; 13; 14, 15 and 16; 20 to 22.
+/// Declined calls need no more, here by the causes that are found last: 10 and, of a comparison, 110; 13; 14, 15 and 16; 20 to 23.
 #[test]
 fn declined_calls_on_the_same_stack() {
     let good = file_of(&deepest_tree(&mut Random::new(11), Bounds::Mixed));
@@ -110,6 +110,19 @@ fn declined_calls_on_the_same_stack() {
         });
         assert_eq!(number, expected);
     }
+    for (file, path, room, p_values, level, expected) in [
+        (&deep, &path, 4097, &p_values[0], 1, 10),
+        (&good, &repeats, 4097, &p_values[0], 1, 13),
+        (&good, &path, 4096, &p_values[0], 1, 16),
+        (&good, &path, 4097, &p_values[1], 1, 20),
+        (&good, &path, 4097, &p_values[2], 1, 21),
+        (&good, &path, 4097, &p_values[0], 0, 23),
+    ] {
+        let number = on_its_stack("phf_hybrid", || {
+            phf::hybrid(file, path, p_values, level, &mut values[..room]).number
+        });
+        assert_eq!(number, expected);
+    }
     for (first, second, expected) in [(&deep, &good, 10), (&good, &deep, 110)] {
         let number = on_its_stack("phf_same", || phf::same(first, second).number);
         assert_eq!(number, expected);
@@ -123,7 +136,7 @@ fn the_header_states_what_the_calls_use() {
     let header = include_str!("../../include/phf.h");
     let (_, table) = header.split_once(" * STACK.").unwrap();
     let (table, _) = table.split_once("\n *\n").unwrap();
-    let mut most = [0; 11];
+    let mut most = [0; 12];
     for family in families() {
         let path = Random::new(10).order(family.peptides as usize);
         let file = file_of(&family);

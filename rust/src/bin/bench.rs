@@ -7,6 +7,7 @@ use phf_tests::families::{
 };
 use phf_tests::random::Random;
 use phf_tests::reference::{check, file_of, Family, Region, Rule};
+use phf_tests::searches::{counted_up_to, longest_searches, LEVEL};
 use phf_tests::stack::{every_call, Stack};
 use phf_tests::{fast, phf};
 use std::hint::black_box;
@@ -744,6 +745,245 @@ fn from_p_growth_table() {
     }
 }
 
+/// A ranking with p-values.
+struct Hybrid {
+    name: String,
+    file: Vec<u8>,
+    path: Vec<u16>,
+    p_values: Vec<u32>,
+    level: u32,
+}
+
+/// What was measured of a hybrid curve, and of the curve on the same input.
+struct Times {
+    library: f64,
+    rust: f64,
+    curve: f64,
+}
+
+impl Times {
+    fn ratio(&self) -> f64 {
+        self.library / self.rust
+    }
+
+    /// What the hybrid curve takes beside the curve.
+    fn simes(&self) -> f64 {
+        self.library - self.curve
+    }
+
+    fn cells(&self) -> String {
+        format!(
+            "{} | {} | {:.2}{} | {} | {}",
+            micro(self.library),
+            micro(self.rust),
+            self.ratio(),
+            if self.ratio() <= 1.5 { "" } else { " over 1.5" },
+            micro(self.curve),
+            micro(self.simes())
+        )
+    }
+}
+
+impl Hybrid {
+    fn new(name: &str, family: &Family, path: &[u16], p_values: &[u32], level: u32) -> Hybrid {
+        Hybrid {
+            name: name.to_string(),
+            file: file_of(family),
+            path: path.to_vec(),
+            p_values: p_values.to_vec(),
+            level,
+        }
+    }
+
+    fn number_at(&self, offset: usize) -> usize {
+        u16::from_le_bytes([self.file[offset], self.file[offset + 1]]) as usize
+    }
+
+    fn leaves(&self) -> usize {
+        self.number_at(6)
+    }
+
+    fn regions(&self) -> usize {
+        self.number_at(8)
+    }
+
+    fn library(&self, values: &mut [u16]) -> phf::Curved {
+        phf::hybrid(&self.file, &self.path, &self.p_values, self.level, values)
+    }
+
+    fn rust(&self, values: &mut [u16]) -> phf::Curved {
+        fast::hybrid(&self.file, &self.path, &self.p_values, self.level, values)
+    }
+
+    /// Both write the same, and leave what lies beyond.
+    fn agree(&self) {
+        let (mut one, mut other) = (vec![9999; 5000], vec![9999; 5000]);
+        assert_eq!(self.library(&mut one).number, 0);
+        assert_eq!(self.rust(&mut other).number, 0);
+        assert_eq!(one, other);
+    }
+
+    fn times(&self) -> Times {
+        self.agree();
+        let mut rooms = [Room::new(), Room::new(), Room::new()];
+        let [one, two, three] = &mut rooms;
+        let found = measure(&mut [
+            &mut || {
+                black_box(black_box(self).library(&mut one.values));
+            },
+            &mut || {
+                black_box(black_box(self).rust(&mut two.values));
+            },
+            &mut || {
+                black_box(phf::curve(
+                    black_box(&self.file),
+                    &self.path,
+                    &mut three.values,
+                    &mut three.marks,
+                ));
+            },
+        ]);
+        Times {
+            library: found[0],
+            rust: found[1],
+            curve: found[2],
+        }
+    }
+}
+
+/// Peptides by rising p-value, as they are ranked.
+fn ranked(p_values: &[u32]) -> Vec<u16> {
+    let mut path: Vec<u16> = (1..=p_values.len() as u16).collect();
+    path.sort_by_key(|peptide| p_values[*peptide as usize - 1]);
+    path
+}
+
+/// p-values for a path of 4,096 peptides, by where the search for a free slot begins.
+fn searches(random: &mut Random, path: &[u16]) -> Vec<(&'static str, Vec<u32>)> {
+    let anywhere: Vec<usize> = (0..4096).map(|_| random.below(4096)).collect();
+    let rising: Vec<usize> = (0..4096).collect();
+    let falling: Vec<usize> = (0..4096).rev().collect();
+    // the first half take the slots one above the other, and all others begin at the top of them
+    let mut chained: Vec<usize> = (1..=2048).collect();
+    chained.extend([2048; 2048]);
+    [
+        ("anywhere", anywhere),
+        ("rising", rising),
+        ("falling", falling),
+        ("all in the middle", vec![2048; 4096]),
+        ("rising to the middle, then all there", chained),
+        ("always farthest from a free slot", longest_searches(4096)),
+    ]
+    .map(|(name, lasts)| (name, counted_up_to(path, &lasts)))
+    .to_vec()
+}
+
+fn hybrid_inputs() -> Vec<Hybrid> {
+    let random = &mut Random::new(12);
+    let any = random.order(4096);
+    let half_small = random.p_values(4096, 1, 2);
+    let ranking = ranked(&half_small);
+    let short = random.p_values(1024, 1, 2);
+    let largest = [
+        ("4,096 leaves, no region", family(&[1; 4096], &[])),
+        ("largest", binary_tree(random, 4096, 1, Bounds::Mixed)),
+    ];
+    let [source_of_two, source] = [2, 8].map(|length| source_family(random, length, false));
+    let mut inputs = vec![
+        Hybrid::new(
+            "course, m = 8",
+            &eight_peptides(),
+            &[7, 3, 1, 4, 6, 2, 5, 8],
+            &EIGHT_P_VALUES,
+            50_000,
+        ),
+        Hybrid::new(
+            "source, by rising p, half small",
+            &source_of_two,
+            &ranked(&short),
+            &short,
+            50_000,
+        ),
+    ];
+    let mut add = |name: &str, family: &Family, path: &[u16], p_values: &[u32], level: u32| {
+        inputs.push(Hybrid::new(name, family, path, p_values, level));
+    };
+    for (name, family) in std::iter::once(&("source", source)).chain(&largest) {
+        let named = |what: &str| format!("{name}, {what}");
+        add(
+            &named("by rising p, half small"),
+            family,
+            &ranking,
+            &half_small,
+            50_000,
+        );
+        add(&named("half small"), family, &any, &half_small, 50_000);
+    }
+    for (name, family) in &largest {
+        let named = |what: &str| format!("{name}, {what}");
+        add(&named("all 0"), family, &any, &[0; 4096], 50_000);
+        add(
+            &named("all 1,000,000"),
+            family,
+            &any,
+            &[1_000_000; 4096],
+            50_000,
+        );
+        for (what, p_values) in searches(random, &any) {
+            add(&named(what), family, &any, &p_values, LEVEL);
+        }
+    }
+    inputs
+}
+
+/// Whether no row is over 1.5 times the Rust one, and whether the Simes part takes no longer than the curve where that has the most
+/// leaves and steps.
+fn hybrid_table() -> (bool, bool) {
+    println!("| family, p-values | T | K | level | library µs | Rust µs | ratio | `curve` µs | Simes part µs | of `curve` |");
+    println!("|---|---|---|---|---|---|---|---|---|---|");
+    let (mut all_met, mut all_within) = (true, true);
+    for input in hybrid_inputs() {
+        let times = input.times();
+        let part = times.simes() / times.curve;
+        let largest = input.leaves() == 4096 && input.path.len() == 4096;
+        let within = part <= 1.0 || !largest;
+        all_met &= times.ratio() <= 1.5;
+        all_within &= within;
+        println!(
+            "| {} | {} | {} | {} | {} | {part:.2}{} |",
+            input.name,
+            input.path.len(),
+            input.regions(),
+            input.level,
+            times.cells(),
+            if within { "" } else { " over 1" }
+        );
+    }
+    (all_met, all_within)
+}
+
+/// How the Simes part grows with the number of peptides. With one leaf the curve takes little, so that it hides nothing.
+fn hybrid_growth_table() {
+    println!("| p-values (T = m, N = 1, K = 0) | m | library µs | Rust µs | ratio | `curve` µs | Simes part µs | ns per step |");
+    println!("|---|---|---|---|---|---|---|---|");
+    let random = &mut Random::new(13);
+    for farthest in [false, true] {
+        for m in [512, 1024, 2048, 4096] {
+            let path = random.order(m);
+            let (name, lasts) = if farthest {
+                ("always farthest from a free slot", longest_searches(m))
+            } else {
+                ("anywhere", (0..m).map(|_| random.below(m)).collect())
+            };
+            let p_values = counted_up_to(&path, &lasts);
+            let one_leaf = family(&[m as u16], &[]);
+            let times = Hybrid::new(name, &one_leaf, &path, &p_values, LEVEL).times();
+            let step = times.simes() / m as f64;
+            println!("| {name} | {m} | {} | {step:.1} |", times.cells());
+        }
+    }
+}
+
 /// The stack that each call needs: the most of several large families.
 fn stack_table() {
     println!("| call | bytes of stack used | KB stated |");
@@ -777,9 +1017,14 @@ fn main() {
     println!("\n### Selections\n");
     let selections_met = selections_table();
     println!("\n### Bounds from p-values\n");
-    let met = from_p_table() && selections_met && calls_met;
+    let from_p_met = from_p_table();
     println!();
     from_p_growth_table();
+    println!("\n### Hybrid curves\n");
+    let (hybrid_met, within) = hybrid_table();
+    let met = hybrid_met && from_p_met && selections_met && calls_met;
+    println!();
+    hybrid_growth_table();
     println!("\n### The walk\n");
     walk_table();
     println!("\n### The experiment of the source\n");
@@ -791,7 +1036,8 @@ fn main() {
     println!("\n### Stack\n");
     stack_table();
     println!(
-        "\nNo call over 1.5 times the Rust one: {met}. Worst check: {} µs.",
+        "\nNo call over 1.5 times the Rust one: {met}. The Simes part takes no longer than the curve with 4,096 leaves and steps: \
+         {within}. Worst check: {} µs.",
         micro(worst)
     );
 }

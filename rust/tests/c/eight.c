@@ -1,7 +1,7 @@
 /*
  * The eight-peptide family from C: every call, what it writes, and every number by its name. The expected values are those
- * of the scope document. Then a family with leaves without a peptide, peptides chosen by their rows, and bounds from p-values,
- * whose values are derived beside them.
+ * of the scope document. Then a family with leaves without a peptide, peptides chosen by their rows, bounds from p-values and
+ * hybrid curves, whose values are derived beside them.
  * Compiled as C99 and as C++11. Prints `ok`, or the first line that does not hold.
  */
 #include <math.h>
@@ -324,6 +324,69 @@ static void bounds_from_p_declines(void)
     HOLDS(phf_bounds_from_p(eight, 54, millionths, 8, 100000000, out, 54) == PHF_DONE);
 }
 
+/* Whether these values, from t = 0 on, are the hybrid curve along the path of the example, and what lies beyond stays. */
+static int draws(uint32_t level, const uint16_t *expected)
+{
+    const uint16_t path[8] = {7, 3, 1, 4, 6, 2, 5, 8};
+    uint16_t values[10];
+    phf_curved answer;
+    values[9] = 777;
+    answer = phf_hybrid(eight, sizeof eight, path, 8, millionths, 8, level, values, 10);
+    return answer.number == PHF_DONE && answer.place == 0
+        && memcmp(values, expected, 9 * sizeof expected[0]) == 0 && values[9] == 777;
+}
+
+static void hybrid(void)
+{
+    /* along the path p is 10 20 1000 300 40000 500000 900000 5, and the regions have 0 1 2 2 3 4 4 4 from t = 1 on */
+    const uint16_t narrow[9] = {0, 0, 0, 0, 0, 1, 2, 3, 3};
+    const uint16_t wide[9] = {0, 0, 0, 0, 0, 0, 1, 2, 2};
+    const uint16_t narrowest[9] = {0, 0, 1, 2, 2, 3, 4, 4, 4};
+    const uint16_t none[2] = {0, 777};
+    uint16_t values[2] = {777, 777};
+    phf_curved answer;
+    /* the thresholds are 6250 k: at k = 1 the fifth, the sixth and the seventh peptide are counted */
+    HOLDS(draws(50000, narrow));
+    /* they are 125000 k: the sixth and the seventh are */
+    HOLDS(draws(1000000, wide));
+    /* they are k / 8: every p is over all of them, so that the Simes bound is t, and that of the regions no larger */
+    HOLDS(draws(1, narrowest));
+    answer = phf_hybrid(eight, sizeof eight, NULL, 0, millionths, 8, 50000, values, 2);
+    HOLDS(answer.number == PHF_DONE && answer.place == 0 && memcmp(values, none, sizeof values) == 0);
+}
+
+static uint16_t hybrid_number(size_t file_len, const uint16_t *path, size_t path_len, const uint32_t *p, size_t p_len,
+                              uint32_t level, size_t room)
+{
+    uint16_t values[9] = {777, 777, 777, 777, 777, 777, 777, 777, 777};
+    phf_curved answer = phf_hybrid(eight, file_len, path, path_len, p, p_len, level, values, room);
+    int i;
+    for (i = 0; i < 9; i++)
+        HOLDS(values[i] == 777);
+    HOLDS(answer.place == (answer.number == PHF_PEPTIDE_TWICE ? 3 : 0));
+    return answer.number;
+}
+
+static void hybrid_declines(void)
+{
+    const uint32_t over[8] = {0, 0, 0, 0, 0, 0, 0, 1000001};
+    const uint16_t path[9] = {1, 2, 3, 4, 5, 6, 7, 8, 9};
+    const uint16_t twice[4] = {1, 2, 1, 2};
+    HOLDS(phf_hybrid(NULL, 0, NULL, 0, NULL, 0, 0, NULL, 0).number == PHF_NOT_A_FAMILY_FILE);
+    HOLDS(hybrid_number(53, path, 9, over, 7, 0, 0) == PHF_BAD_LAYOUT);
+    HOLDS(hybrid_number(54, path, 9, over, 7, 0, 0) == PHF_PATH_TOO_LONG);
+    HOLDS(hybrid_number(54, path + 2, 7, over, 7, 0, 0) == PHF_BAD_PATH_NUMBER);
+    HOLDS(hybrid_number(54, twice, 4, over, 7, 0, 0) == PHF_PEPTIDE_TWICE);
+    HOLDS(hybrid_number(54, path, 8, over, 7, 0, 8) == PHF_SHORT_OUTPUT);
+    HOLDS(hybrid_number(54, path, 8, over, 7, 0, 9) == PHF_BAD_P_VALUES_LENGTH);
+    HOLDS(hybrid_number(54, path, 8, NULL, 0, 0, 9) == PHF_BAD_P_VALUES_LENGTH);
+    HOLDS(hybrid_number(54, path, 8, over, 8, 0, 9) == PHF_BAD_P_VALUE);
+    /* also that of a peptide that is not in the path */
+    HOLDS(hybrid_number(54, path, 1, over, 8, 50000, 9) == PHF_BAD_P_VALUE);
+    HOLDS(hybrid_number(54, path, 8, millionths, 8, 0, 9) == PHF_BAD_LEVEL);
+    HOLDS(hybrid_number(54, path, 8, millionths, 8, 1000001, 9) == PHF_BAD_LEVEL);
+}
+
 static void put(uint8_t *file, size_t at, size_t number)
 {
     file[at] = (uint8_t)(number & 255);
@@ -418,6 +481,8 @@ int main(void)
     choose_declines();
     bounds_from_p();
     bounds_from_p_declines();
+    hybrid();
+    hybrid_declines();
     numbers_of_files();
     numbers_of_other_inputs();
     if (failures == 0)
