@@ -48,9 +48,9 @@ pub fn hybrid(file: &[u8], path: &[u16], p_values: &[u32], level: u32, values: &
     let mut marks = [0u8; 4096];
     match bounds::curve(file, path, &mut region_curve, &mut marks) {
         Curved::Written => {
-            let cause = hybrid_cause(file, path, p_values, level, values.len());
-            if cause != 0 {
-                return Curved::Refused(cause);
+            let number = hybrid_cause(file, path, p_values, level, values.len());
+            if number != 0 {
+                return Curved::Refused(number);
             }
             write_smaller(
                 peptide_count(file),
