@@ -70,6 +70,10 @@ pub record HybridExamples : Type 0 where
   pub both-accepted : Accepted eightFile × Accepted (fileOf free)
   pub other-curve : curveValues free eightPath ≡ 0 ∷ 1 ∷ 2 ∷ 3 ∷ 4 ∷ 5 ∷ 6 ∷ 7 ∷ 8 ∷ []
   pub same-hybrid : hybridValues free eightValues 50000 eightPath ≡ hybridValues eightFamily eightValues 50000 eightPath
+  -- A path of one peptide: its thresholds are those of m = 8 peptides, and so is the number of p-values. With 1 for m the value would be 0.
+  pub short-path : hybridValues eightFamily (mixedWith 12500) 50000 (3 ∷ []) ≡ 0 ∷ 1 ∷ []
+  pub short-none : told (3 ∷ []) (mixedWith 12500) 50000 2 ≡ 0
+  pub short-20 : told (3 ∷ []) (7000 ∷ []) 50000 2 ≡ 20
   -- the edges of cause 23
   pub level-0 : cause23 0 ≡ true
   pub level-1 : cause23 1 ≡ false
@@ -108,6 +112,9 @@ hybrid-examples =
       both-accepted = (refl, refl);
       other-curve = refl;
       same-hybrid = refl;
+      short-path = refl;
+      short-none = refl;
+      short-20 = refl;
       level-0 = refl;
       level-1 = refl;
       level-1000000 = refl;
