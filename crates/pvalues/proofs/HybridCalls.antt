@@ -12,7 +12,7 @@ use Rattle.reader.specs.Family.{Family, familyOf}
 use Rattle.reader.specs.Causes.{Cause, firstCause, Accepted}
 use Rattle.reader.specs.Calls.{Report, short}
 use Rattle.reader.proofs.First.{join-clear, join-holds, writes, leaves-unchanged}
-use Rattle.reader.proofs.Bools.{or-fails-l, or-fails-r, clash, not-passes, not-fails}
+use Rattle.reader.proofs.Bools.{or-fails-l, clash, not-passes, not-fails}
 use Rattle.reader.proofs.Lists.{length-tabulate, tabulate-same}
 use Rattle.reader.proofs.Judged.{peptides-counted}
 use Rattle.reader.proofs.Accepting.{accepted-header}
@@ -55,7 +55,6 @@ module _ (file path ps : List ℕ) (level room : ℕ) where
           values = k .1 .0;
           most = k .1 .1 .0;
           level-some = some-level (eqb-false level 0 (or-fails-l (eqb level 0) (ltb million level) (k .1 .1 .1)));
-          level-most = ltb-false million level (or-fails-r (eqb level 0) (ltb million level) (k .1 .1 .1));
         },
         omega (arith, ltb-false room (length path + 1) (k .0)),
       )

@@ -1,8 +1,8 @@
 -- The theorem on the hybrid curve: what `hybrid` writes, over all its calls that have nothing to decline. Demands 2 and 3, formula (3)
 -- and the equality of reduced files, go on concerning the region curves alone: a hybrid value is the largest count of formula (3) only
--- where the region bound is the smaller one, and equal hybrid curves do not make equal reduced files. In `HybridExamples` two families
--- with different curves have the same hybrid curve.
-use Prim.Native.Nat.{ℕ, zero, suc, _+_, _-_, _≤_, _<_, min}
+-- where the region bound is the smaller one, and equal hybrid curves do not make equal reduced files (`nothing-over`; in `HybridExamples`
+-- two families with different curves have the same hybrid curve).
+use Prim.Native.Nat.{ℕ, zero, suc, _+_, _-_, _*_, _≤_, _<_, min}
 use mathlib.Core.Bool.{not, _&&_}
 use mathlib.Core.List.{List, _++_}
 use mathlib.Core.Logic.{_⊎_, inl, inr, ⊎-elim}
@@ -37,7 +37,7 @@ use Rattle.pvalues.specs.Hybrid.{countedAt, simesAt, leastUpTo, simes, S
 use Rattle.pvalues.specs.Calls.{hybridCauses, HybridDeclines}
 use Rattle.pvalues.specs.AcceptedCalls.{HybridCall}
 use Rattle.pvalues.proofs.HybridCalls.{hybrid-clear}
-use Rattle.pvalues.proofs.Theory.SimesLaws.{simes-least, simes-reached, simes-size, simes-none, simes-few, simes-mono, simes-same, simes-one-more, simes-level, simes-raised, simes-holds}
+use Rattle.pvalues.proofs.Theory.SimesLaws.{simes-least, simes-reached, simes-size, simes-none, simes-under, simes-few, simes-mono, simes-same, simes-one-more, simes-level, simes-raised, simes-holds}
 use Rattle.pvalues.proofs.Theory.SimesLargest.{simes-largest}
 
 -- the Simes bound of the first t peptides
@@ -76,10 +76,14 @@ pub record HybridCurve : Type 0 where
   pub raised-p-values : (f : AcceptedFile) (c d : HybridCall f) → c .path ≡ d .path → c .level ≡ d .level
       → ((i : ℕ) → getD (c .p-values) i 0 ≤ getD (d .p-values) i 0) → (t : ℕ) → t ≤ length (c .path) → getD (c .new) t 0 ≤ getD (d .new) t 0
   -- Two families whose region curves agree along a path have the same values along it, with the same p-values, and so the same m, and
-  -- the same level. The converse is not so.
+  -- the same level.
   pub same-curves : (f g : AcceptedFile) (c : HybridCall f) (d : HybridCall g) → c .path ≡ d .path → c .p-values ≡ d .p-values → c .level ≡ d .level
       → ((t : ℕ) → t ≤ length (c .path) → entry (familyOf (f .file)) (c .path) t ≡ entry (familyOf (g .file)) (c .path) t)
       → (t : ℕ) → t ≤ length (c .path) → getD (c .new) t 0 ≡ getD (d .new) t 0
+  -- Where no p-value times m is over the level, every value is 0, whatever the family: equal hybrid curves, even along every path, do not
+  -- make equal curves, nor equal reduced files.
+  pub nothing-over : (f : AcceptedFile) (c : HybridCall f) → ((i : ℕ) → getD (c .p-values) i 0 * peptidesIn f ≤ c .level)
+      → (t : ℕ) → t ≤ length (c .path) → getD (c .new) t 0 ≡ 0
   -- The Simes bound of a selection from any m peptides is formula (7) of the source: the least, over k from 1 to m, of k - 1 plus the
   -- count of the selected peptides that are counted at k, those with p times m greater than the level times k.
   pub simes-least : (m : ℕ) (ps : List ℕ) (level : ℕ) (S : Peptides) (k : ℕ) → 1 ≤ k → k ≤ m
@@ -226,6 +230,7 @@ hybrid-curve =
           let peptides : peptidesIn f ≡ peptidesIn g = sym (values-counted f c) ∙ ap length values ∙ values-counted g d in
           let bound : simesOf f c t ≡ simes (peptidesIn g) (d .p-values) (d .level) (among (take t (c .path))) = rw (peptides, values, level) in
           omega (arith, value-is f c t h, value-along g d (c .path) e t h, same t h);
+      nothing-over = λ f c small t h. omega (arith, value-is f c t h, simes-under (peptidesIn f) (c .p-values) (c .level) (among (take t (c .path))) small);
       simes-least = λ m ps level S k l u. unfold simesAt in simes-least m ps level S k l u;
       simes-reached =
           λ m ps level S l.

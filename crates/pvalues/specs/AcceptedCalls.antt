@@ -48,7 +48,7 @@ pub record HybridCall (f : AcceptedFile) : Type 0 where
   -- the lent list before it
   pub old : List ℕ
   pub room : length path + 1 ≤ length old
-  -- its answer and the lent list after it, with its promises
+  -- its answer and the lent list after it, with the promises that the theorem needs
   pub answer : Curved
   pub new : List ℕ
   pub declines : HybridDeclines (f .file) path p-values level old answer

@@ -32,7 +32,7 @@ fn bad_p_values(p_values: &[u32]) -> bool
     bad
 }
 
-// The first of the causes 16, 20 and 21 that holds, with room for so many elements of those needed, or 0.
+// The first of the causes 16, 20 and 21 that holds, or 0; the output has room for so many elements, and so many are needed.
 fn room_and_p_cause(file: &[u8], p_values: &[u32], needed: usize, room: usize) -> u16
     ensures { λ r. ⌜ r ≡ firstCause (roomAndPValues (short needed room) (familyOf (now (file .entry)) .peptides) (now («p_values» .entry))) ⌝ }
 {

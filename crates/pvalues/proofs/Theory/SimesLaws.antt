@@ -4,6 +4,7 @@
 --   simes-reached      at one of these k it is that number
 --   simes-size         it is at most the number of selected peptides
 --   simes-none         of an empty selection it is 0
+--   simes-under        where no p-value times m is over the level it is 0
 --   simes-few          k from 1 to a number that is no smaller than the selection suffice
 --   simes-mono         a larger selection has no smaller one
 --   simes-same         selections that are the same on 1 to m have the same
@@ -13,7 +14,7 @@
 --   simes-one-more     so has the other selection with one more peptide
 --   simes-holds        a set that has at most k - 1 of the peptides not counted at k, for each k, has no more of the selection
 use Prim.Native.Nat.{ℕ, zero, suc, _+_, _-_, _*_, _≤_, _<_}
-use mathlib.Core.Bool.{true, not, _&&_}
+use mathlib.Core.Bool.{true, not, _&&_, and-false}
 use mathlib.Core.List.{List}
 use mathlib.Core.Logic.{_≢_, ⊎-elim}
 use mathlib.Core.Path.{_≡_, sym, _∙_}
@@ -21,10 +22,10 @@ use native.Mathlib.Nat.{mul-le-mul-right}
 use native.Mathlib.Omega.{arith}
 use lib.ListN.{getD}
 use lib.Dec.{eqb}
-use borrow.Author.Tests.{ltb-true, lt-ltb, eqb-true}
+use borrow.Author.Tests.{ltb-true, lt-ltb, le-ltb, eqb-true}
 use Rattle.bounds.specs.Ranges.{Peptides, card}
 use Rattle.bounds.proofs.Basics.Members.{test, le-or-lt, ands}
-use Rattle.bounds.proofs.Basics.Counting.{Subset, SameSet, card-mono, card-most, card-split, card-but-one, adding, adding-other}
+use Rattle.bounds.proofs.Basics.Counting.{Subset, SameSet, card-mono, card-most, card-none, card-split, card-but-one, adding, adding-other}
 use Rattle.pvalues.specs.Hybrid.{pValueOf, countedAt, simesAt, leastUpTo, simes, SimesAdmissible}
 use Rattle.pvalues.proofs.Theory.Least.{Reached, least-most, least-reached, least-is, least-mono}
 
@@ -55,6 +56,12 @@ module _ (m : ℕ) (ps : List ℕ) (level : ℕ) (S : Peptides) where
 
   pub simes-none : card m S ≡ 0 → simes m ps level S ≡ 0
   simes-none e = omega (arith, simes-size)
+
+  pub simes-under : ((i : ℕ) → getD ps i 0 * m ≤ level) → simes m ps level S ≡ 0
+  unfolding simesAt countedAt pValueOf
+  simes-under small =
+      let none = card-none m (λ p. S p && countedAt m ps level 1 p) (λ p l u. rw (le-ltb (level * 1) (getD ps (p - 1) 0 * m) (omega (arith, small (p - 1)))) (and-false (S p))) in
+      ⊎-elim (λ zero. omega (arith, simes-size, card-most m S)) (λ some. omega (arith, simes-least 1 (omega arith) some)) (le-or-lt m 0)
 
   pub simes-few : (n : ℕ) → 0 < n → n ≤ m → card m S ≤ n → leastUpTo n (simesAt m ps level S) ≡ simes m ps level S
   unfolding simesAt

@@ -11,7 +11,7 @@ use Rattle.bounds.specs.Calls.{IsPath}
 use Rattle.pvalues.specs.FromP.{million}
 use Rattle.pvalues.specs.Hybrid.{countedAt, simes}
 
--- the last k up to m at which a peptide with p-value p is counted; it is counted at each k from 1 to this one, and at none above
+-- the last k up to m at which a peptide with p-value p is counted; it is counted at each k from 1 to this one, and at none from there to m
 unfoldable pub lastCounted : ℕ → ℕ → ℕ → ℕ
 lastCounted m level p = largestUpTo m (λ k. ltb (level * k) (p * m))
 
@@ -70,7 +70,6 @@ pub record SimesInputs (m : ℕ) (path ps : List ℕ) (level : ℕ) : Type 0 whe
   pub values : length ps ≡ m
   pub most : (i : ℕ) → getD ps i 0 ≤ million
   pub level-some : 0 < level
-  pub level-most : level ≤ million
 
 -- the smaller of a curve's value and of the Simes bound of the first t peptides
 abbrev pub smallerAt : ℕ → List ℕ → ℕ → List ℕ → List ℕ → ℕ → ℕ
