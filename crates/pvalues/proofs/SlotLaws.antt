@@ -3,15 +3,15 @@ use Prim.Native.Nat.{ℕ, _-_, _<_, _≤_}
 use mathlib.Core.Bool.{true, false}
 use mathlib.Core.List.{List}
 use mathlib.Core.Logic.{_⊎_, inl, inr, ⊎-elim}
-use mathlib.Core.Path.{_≡_, refl, sym, ap, _∙_}
+use mathlib.Core.Path.{_≡_, sym, ap, _∙_}
 use native.Mathlib.Omega.{arith}
-use lib.ListN.{length, getD, set, length-set}
+use lib.ListN.{getD, set, length-set}
 use lib.Seq.{getD-set-same, getD-set-other}
 use lib.Dec.{eqb}
 use borrow.Author.Tests.{eqb-true, eqb-false, eq-eqb, ne-eqb}
 use Rattle.reader.proofs.Bools.{test}
 use Rattle.bounds.proofs.Basics.Members.{le-or-lt}
-use Rattle.pvalues.specs.Private.Simes.{isFree, Slots, LastFree, Searched, Taken}
+use Rattle.pvalues.specs.Private.Simes.{isFree, Slots}
 
 same-or-other : (q r : ℕ) → (q ≡ r) ⊎ (q ≡ r → ⊥)
 same-or-other q r = ⊎-elim (λ e. inl (eqb-true q r e)) (λ e. inr (eqb-false q r e)) (test (eqb q r))
@@ -19,10 +19,6 @@ same-or-other q r = ⊎-elim (λ e. inl (eqb-true q r e)) (λ e. inr (eqb-false 
 not-free : (slots : List ℕ) (q : ℕ) → (getD slots q 0 ≡ q → ⊥) → isFree slots q ≡ false
 unfolding isFree
 not-free slots q h = ne-eqb (getD slots q 0) q h
-
-free-stands : (slots : List ℕ) (q : ℕ) → isFree slots q ≡ true → getD slots q 0 ≡ q
-unfolding isFree
-free-stands slots q h = eqb-true (getD slots q 0) q h
 
 pub free-here : (slots : List ℕ) (q : ℕ) → getD slots q 0 ≡ q → isFree slots q ≡ true
 unfolding isFree

@@ -1,6 +1,5 @@
 // Slots 0 to 4,096, of which the last free one up to a number is found and taken. In a free slot stands its own number, in a taken one
 // that of a lower slot with none free between them; a search shortens the way that it goes, so that no later one goes all of it again.
-ghost use mathlib.Core.Path.{_≡_};
 ghost use Prim.Native.Nat.{_<_};
 ghost use Rattle.pvalues.specs.Private.Simes.{Slots, Searched, Taken};
 

@@ -1,5 +1,4 @@
 -- 0 first, then the limit.
-use mathlib.Core.Path.{sym}
 use borrow.Author.Tests.{ne-eqb}
 use Rattle.pvalues.specs.Hybrid.{cause23}
 use Rattle.pvalues.proofs.inputs.bad_level.Statement.{statement}

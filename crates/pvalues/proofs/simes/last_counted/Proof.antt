@@ -2,7 +2,7 @@
 use Prim.Native.Nat.{ℕ, suc, _+_, _-_, _*_, _/_, _<_, _≤_}
 use native.Mathlib.Omega.{arith}
 use native.Mathlib.Nat.{mul-le-mul, mul-comm, lt-suc-self, div-mul-le-self, div-lt-iff-lt-mul}
-use mathlib.Core.Path.{_≡_, refl, sym, _∙_}
+use mathlib.Core.Path.{_≡_}
 use Rattle.pvalues.proofs.Theory.Slots.{last-counted-none, last-counted-below, last-counted-all}
 use borrow.Author.Needs.{needs}
 use Rattle.pvalues.proofs.simes.last_counted.Statement.{statement}

@@ -1,8 +1,8 @@
 -- Slot 0 is never taken, and the number before a taken slot goes into it.
-use Prim.Native.Nat.{ℕ, _-_, _<_}
+use Prim.Native.Nat.{_-_, _<_}
 use native.Mathlib.Omega.{arith}
-use mathlib.Core.Path.{_≡_, refl, sym, _∙_}
-use borrow.Author.Tests.{eq-eqb, ne-eqb}
+use mathlib.Core.Path.{_∙_}
+use borrow.Author.Tests.{ne-eqb}
 use Rattle.pvalues.proofs.SlotLaws.{written-taken, written-others, written-kept}
 use borrow.Author.Needs.{needs}
 use Rattle.pvalues.proofs.slots.take_slot.Statement.{statement}
