@@ -475,3 +475,36 @@ pub fn all_families_of(m: u16, n: usize) -> Vec<Family> {
         .flat_map(|lengths| all_families_on(lengths, 1))
         .collect()
 }
+
+/// Two accepted files, and for each cause of a file one for which it is the first; with each its number, and for how many peptides a
+/// call with it is made.
+pub fn one_for_each_cause() -> Vec<(u16, usize, Vec<u8>)> {
+    let with = |at: usize, byte: u8| {
+        let mut eight = file_of(&eight_peptides());
+        eight[at] = byte;
+        eight
+    };
+    vec![
+        (0, 8, with(0, b'P')),
+        (0, 4096, file_of(&chain(4096, 64, 9))),
+        (1, 8, with(0, b'Q')),
+        (2, 4097, file(&[4097], &[(1, 1, 1)])),
+        (3, 3, file(&all_but_one_empty(4097, 1, 3), &[])),
+        (4, 3, file(&[3], &[(1, 1, 1), (1, 1, 0)])),
+        (5, 8, with(14, 55)),
+        (6, 8, with(16, 3)),
+        (7, 8, with(24, 0)),
+        (8, 8, with(32, 2)),
+        (9, 8, with(38, 3)),
+        (10, 65, file_of(&chain(65, 65, 1))),
+    ]
+}
+
+/// Every set of these: of faults, those that a call can have at once are among them.
+pub fn sets_of<T: Copy>(all: &[T]) -> Vec<Vec<T>> {
+    let chosen = |set: usize| {
+        let has = move |i: &usize| set >> i & 1 == 1;
+        (0..all.len()).filter(has).map(|i| all[i]).collect()
+    };
+    (0..1 << all.len()).map(chosen).collect()
+}

@@ -4,8 +4,8 @@
 
 use phf_tests::compare;
 use phf_tests::families::{
-    all_but_one_empty, binary_tree, chain, chain_over_one_leaf, deepest_tree, eight_peptides,
-    family, file, random_family, Bounds, DEVIATION_SQUARED, EIGHT_P_VALUES,
+    binary_tree, chain, chain_over_one_leaf, deepest_tree, eight_peptides, family, file,
+    one_for_each_cause, random_family, sets_of, Bounds, DEVIATION_SQUARED, EIGHT_P_VALUES,
 };
 use phf_tests::guarded::{self, curve_of, from_p, reduced};
 use phf_tests::random::{cases, Random};
@@ -570,36 +570,10 @@ impl Fault {
 
 /// Every set of faults that one call can have.
 fn fault_sets() -> Vec<Vec<Fault>> {
-    (0..1 << FAULTS.len())
-        .map(|set: usize| {
-            let has = |i: &usize| set >> i & 1 == 1;
-            (0..FAULTS.len()).filter(has).map(|i| FAULTS[i]).collect()
-        })
+    sets_of(&FAULTS)
+        .into_iter()
         .filter(|set: &Vec<Fault>| !(set.contains(&ShortP) && set.contains(&LongP)))
         .collect()
-}
-
-/// Two accepted files, and for each cause of a file one for which it is the first; with each the peptides of a call.
-fn files() -> Vec<(u16, usize, Vec<u8>)> {
-    let with = |at: usize, byte: u8| {
-        let mut eight = file_of(&eight_peptides());
-        eight[at] = byte;
-        eight
-    };
-    vec![
-        (0, 8, with(0, b'P')),
-        (0, 4096, file_of(&chain(4096, 64, 9))),
-        (1, 8, with(0, b'Q')),
-        (2, 4097, file(&[4097], &[(1, 1, 1)])),
-        (3, 1, file(&all_but_one_empty(4097, 1, 1), &[])),
-        (4, 1, file(&[1], &[(1, 1, 1), (1, 1, 0)])),
-        (5, 8, with(14, 55)),
-        (6, 8, with(16, 3)),
-        (7, 8, with(24, 0)),
-        (8, 8, with(32, 2)),
-        (9, 8, with(38, 3)),
-        (10, 65, file_of(&chain(65, 65, 1))),
-    ]
 }
 
 /// Causes are tried in the order of their numbers, so the smallest one is expected. The bad p-value is the first, the middle or the
@@ -623,7 +597,7 @@ fn the_first_of_several_causes() {
     let sets = fault_sets();
     // three places for the length of the p-values
     assert_eq!(sets.len(), 3 * 8);
-    for (number, m, file) in files() {
+    for (number, m, file) in one_for_each_cause() {
         assert_eq!(compare::check(&file), number);
         for (halves, bad) in [(0, MILLION + 1), (1, u32::MAX), (2, 1 << 20)] {
             for faults in &sets {

@@ -5,8 +5,8 @@
 
 use phf_tests::compare;
 use phf_tests::families::{
-    all_but_one_empty, binary_tree, chain, chain_over_one_leaf, deepest_tree, eight_peptides,
-    family, file, random_family, Bounds, DEVIATION_SQUARED, EIGHT_P_VALUES,
+    binary_tree, chain, chain_over_one_leaf, deepest_tree, eight_peptides, family, file,
+    one_for_each_cause, random_family, sets_of, Bounds, DEVIATION_SQUARED, EIGHT_P_VALUES,
 };
 use phf_tests::fast;
 use phf_tests::guarded::{self, curve_of, from_p, hybrid_of};
@@ -741,36 +741,10 @@ impl Fault {
 /// Every set of faults that one call can have.
 fn fault_sets() -> Vec<Vec<Fault>> {
     let both = |set: &[Fault], one, other| set.contains(&one) && set.contains(&other);
-    (0..1 << FAULTS.len())
-        .map(|set: usize| {
-            let has = |i: &usize| set >> i & 1 == 1;
-            (0..FAULTS.len()).filter(has).map(|i| FAULTS[i]).collect()
-        })
+    sets_of(&FAULTS)
+        .into_iter()
         .filter(|set: &Vec<Fault>| !both(set, ShortP, LongP) && !both(set, ZeroLevel, LargeLevel))
         .collect()
-}
-
-/// Two accepted files, and for each cause of a file one for which it is the first; with each the peptides of a call.
-fn files() -> Vec<(u16, usize, Vec<u8>)> {
-    let with = |at: usize, byte: u8| {
-        let mut eight = file_of(&eight_peptides());
-        eight[at] = byte;
-        eight
-    };
-    vec![
-        (0, 8, with(0, b'P')),
-        (0, 4096, file_of(&chain(4096, 64, 9))),
-        (1, 8, with(0, b'Q')),
-        (2, 4097, file(&[4097], &[(1, 1, 1)])),
-        (3, 3, file(&all_but_one_empty(4097, 1, 3), &[])),
-        (4, 3, file(&[3], &[(1, 1, 1), (1, 1, 0)])),
-        (5, 8, with(14, 55)),
-        (6, 8, with(16, 3)),
-        (7, 8, with(24, 0)),
-        (8, 8, with(32, 2)),
-        (9, 8, with(38, 3)),
-        (10, 65, file_of(&chain(65, 65, 1))),
-    ]
 }
 
 /// Where a fault stands, and what stands there.
@@ -824,7 +798,7 @@ fn the_first_of_several_causes() {
     let sets = fault_sets();
     // three faults of a path, two lengths of the values, three of the p-values, and three levels
     assert_eq!(sets.len(), 8 * 2 * 3 * 2 * 3);
-    for (number, m, file) in files() {
+    for (number, m, file) in one_for_each_cause() {
         assert_eq!(compare::check(&file), number);
         for (halves, bad_p, bad_number) in [
             (0, MILLION + 1, 0),
