@@ -9,9 +9,12 @@ use Rattle.reader.specs.Family.{familyOf, regionCount}
 use Rattle.reader.specs.Causes.{Cause, firstCause, fileCauses}
 use Rattle.reader.specs.Calls.{Report, answer, written, short}
 use Rattle.bounds.specs.Selections.{boundOf, takenOf, totalsOf, cause14}
+use Rattle.bounds.specs.SelectionLists.{listBounds, listCause14, cause24}
+use Rattle.bounds.specs.Tally.{chargeOf, added, cause25}
 use Rattle.bounds.specs.Curves.{curveValues, curveMarks, cutOf, cause11, cause12, cause13, firstRepeat, cause15}
 use Rattle.bounds.specs.declared.Bounded.{Bounded}
 use Rattle.bounds.specs.declared.Bounded.the-variants as bounded
+use Rattle.bounds.specs.declared.Listed.{Listed}
 use Rattle.bounds.specs.declared.Curved.{Curved}
 use Rattle.bounds.specs.declared.Curved.the-variants as curved
 use Rattle.bounds.specs.declared.CutFound.{CutFound}
@@ -52,6 +55,19 @@ causesWithRoom file selection room =
 abbrev pub selectionCauses : List ℕ → List ℕ → List ℕ → List Cause
 selectionCauses file selection out = causesWithRoom file selection (length out)
 
+-- what a list of selections is tried for after the file: its bytes, values under the number of selections, that number, the tally
+unfoldable pub listInputs : List ℕ → List ℕ → ℕ → ℕ → ℕ → List Cause
+listInputs file selections count tally room =
+    record { number = 14; holds = listCause14 (familyOf file .peptides) selections count }
+    ∷ record { number = 16; holds = short count room }
+    ∷ record { number = 24; holds = cause24 count }
+    ∷ record { number = 25; holds = cause25 tally (chargeOf (regionCount (familyOf file)) count) }
+    ∷ []
+
+-- room is the number of places for values
+unfoldable pub listCauses : List ℕ → List ℕ → ℕ → ℕ → ℕ → List Cause
+listCauses file selections count tally room = fileCauses file ++ listInputs file selections count tally room
+
 unfoldable pub pathCauses : ℕ → List ℕ → List Cause
 pathCauses m path =
     record { number = 11; holds = cause11 m path }
@@ -84,6 +100,14 @@ pathRefusal path n = record { number = n; values = cond (eqb n 13) (firstRepeat 
 unfoldable pub pathAnswer : List Cause → List ℕ → List ℕ → Report
 pathAnswer cs path values = cond (eqb (firstCause cs) 0) (record { number = 0; values = values }) (pathRefusal path (firstCause cs))
 
+-- A call with these causes is charged this much if none holds, else nothing.
+unfoldable pub charged : List Cause → ℕ → ℕ
+charged cs charge = cond (eqb (firstCause cs) 0) charge 0
+
+-- Its answer: the number of the first cause that holds, what it is charged, and the tally with that added.
+unfoldable pub listed : List Cause → ℕ → ℕ → Listed
+listed cs charge tally = record { number = firstCause cs; charge = charged cs charge; tally = added tally (charged cs charge) }
+
 -- What the calls promise. A list that is lent for an output stands for what it held before the call; new is what the call
 -- leaves in it.
 
@@ -98,6 +122,16 @@ TakenWrites file selection taken new = new ≡ written (selectionCauses file sel
 -- the totals of `inside_totals`
 abbrev pub TotalsWrites : List ℕ → List ℕ → List ℕ → List ℕ → Type 0
 TotalsWrites file selection out new = new ≡ written (selectionCauses file selection out) (totalsOf (familyOf file) selection) out
+
+-- the answer r of `bound_list`
+abbrev pub ListAnswers : List ℕ → List ℕ → ℕ → ℕ → List ℕ → Listed → Type 0
+ListAnswers file selections count tally values r =
+    r ≡ listed (listCauses file selections count tally (length values)) (chargeOf (regionCount (familyOf file)) count) tally
+
+-- its values
+abbrev pub ListWrites : List ℕ → List ℕ → ℕ → ℕ → List ℕ → List ℕ → Type 0
+ListWrites file selections count tally values new =
+    new ≡ written (listCauses file selections count tally (length values)) (listBounds (familyOf file) selections count) values
 
 -- the answer r of `curve`, its values and its marks
 abbrev pub CurveAnswers : List ℕ → List ℕ → List ℕ → List ℕ → Curved → Type 0

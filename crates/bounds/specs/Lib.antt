@@ -2,6 +2,8 @@
 pub mod Ranges
 pub mod Bound
 pub mod Selections
+pub mod SelectionLists
+pub mod Tally
 pub mod Curves
 pub mod Holding
 pub mod Calls

@@ -1,6 +1,7 @@
-// The bound of a selection with its taken regions, the curve along a path with its marks, and the cut.
+// The bound of a selection with its taken regions, the bounds of a list of selections, the curve along a path with its marks, and the cut.
 mod cursor;
 mod entries;
+mod list;
 mod path;
 mod rows;
 mod selection;
@@ -9,17 +10,28 @@ mod walk;
 
 use entries::find_cut;
 use entries::write_curve;
+use list::charge_of;
+use list::list_cause;
+use list::write_bounds;
 use path::Admitted;
 use path::admit;
+use reader::family::region_count;
 use rows::line_value;
 use selection::selection_cause;
 use taking::write_taken;
-ghost use Rattle.bounds.specs.Calls.{BoundAnswers, TakenWrites, TotalsWrites, CurveAnswers, CurveValuesWrites, CurveMarksWrites, CurveDeclines, CutAnswers};
+ghost use Rattle.bounds.specs.Calls.{BoundAnswers, TakenWrites, TotalsWrites, ListAnswers, ListWrites, CurveAnswers, CurveValuesWrites, CurveMarksWrites, CurveDeclines, CutAnswers};
 
 // A bound, or the number of the first cause that holds.
 pub enum Bounded {
     Bound(u16),
     Refused(u16),
+}
+
+// The number of the first cause that holds, 0 for none; what the list is charged, 0 when declined; and the tally with that charge added.
+pub struct Listed {
+    pub number: u16,
+    pub charge: u16,
+    pub tally: u32,
 }
 
 // The curve is written, or the number of the first cause that holds; number 13 with the first place, counted from 1, whose peptide
@@ -63,6 +75,35 @@ pub fn inside_totals(file: &[u8], selection: &[u8], out: &mut [u16]) -> Bounded
     }
     let value = line_value(file, selection, out);
     Bounded::Bound(value)
+}
+
+// The bounds of up to 32 selections, joined in one buffer, each as if sent by itself. The values are written from the start of the lent
+// slice; a declined call leaves it and the tally unchanged.
+pub fn bound_list(
+    file: &[u8],
+    selections: &[u8],
+    count: u16,
+    tally: u32,
+    values: &mut [u16],
+) -> Listed
+    ensures { λ r. ⌜ ListAnswers (now (file .entry)) (now (selections .entry)) count tally (now (values .entry)) r ⌝ }
+    ensures { λ _. ⌜ ListWrites (now (file .entry)) (now (selections .entry)) count tally (now (values .entry)) (now (values .exit)) ⌝ }
+{
+    let number = list_cause(file, selections, count, tally, values.len());
+    if number != 0 {
+        return Listed {
+            number,
+            charge: 0,
+            tally,
+        };
+    }
+    write_bounds(file, selections, count, values);
+    let charge = charge_of(region_count(file), count);
+    Listed {
+        number,
+        charge,
+        tally: tally + (charge as u32),
+    }
 }
 
 // The curve along a path and its marks: entry t is the bound of the first t peptides, mark t is 1 where it is one more

@@ -11,11 +11,11 @@ ghost use Rattle.reader.specs.Causes.{firstCause};
 ghost use Rattle.bounds.specs.Selections.{selected, cause14};
 ghost use Rattle.bounds.specs.Calls.{causesWithRoom};
 
-// Not m bytes, or a byte over 1.
-pub(crate) fn bad_selection(selection: &[u8], m: u16) -> bool
-    ensures { λ r. ⌜ r ≡ cause14 m (now (selection .entry)) ⌝ }
+// Not that many bytes, or a byte over 1.
+pub(crate) fn bad_selection(selection: &[u8], whole: usize) -> bool
+    ensures { λ r. ⌜ r ≡ cause14 whole (now (selection .entry)) ⌝ }
 {
-    if selection.len() != m as usize {
+    if selection.len() != whole {
         return true;
     }
     let mut i = 0;
@@ -62,7 +62,7 @@ pub(crate) fn selection_cause(file: &[u8], selection: &[u8], room: usize) -> u16
             leaves: _,
             regions,
         } => {
-            if bad_selection(selection, peptides) {
+            if bad_selection(selection, peptides as usize) {
                 return 14;
             }
             if room < regions as usize { 16 } else { 0 }
