@@ -3,4 +3,5 @@ pub mod Selecting
 pub mod PathLaws
 pub mod FirstRepeat
 pub mod SelectionCalls
+pub mod ListCalls
 pub mod Answering

@@ -55,18 +55,20 @@ causesWithRoom file selection room =
 abbrev pub selectionCauses : List ℕ → List ℕ → List ℕ → List Cause
 selectionCauses file selection out = causesWithRoom file selection (length out)
 
--- what a list of selections is tried for after the file: its bytes, values under the number of selections, that number, the tally
-unfoldable pub listInputs : List ℕ → List ℕ → ℕ → ℕ → ℕ → List Cause
-listInputs file selections count tally room =
-    record { number = 14; holds = listCause14 (familyOf file .peptides) selections count }
+-- what is tried after the file, of m peptides and K regions: the bytes of all selections, values under the number of selections, that
+-- number, then the tally
+unfoldable pub listInputs : ℕ → ℕ → List ℕ → ℕ → ℕ → ℕ → List Cause
+listInputs m K selections count tally room =
+    record { number = 14; holds = listCause14 m selections count }
     ∷ record { number = 16; holds = short count room }
     ∷ record { number = 24; holds = cause24 count }
-    ∷ record { number = 25; holds = cause25 tally (chargeOf (regionCount (familyOf file)) count) }
+    ∷ record { number = 25; holds = cause25 tally (chargeOf K count) }
     ∷ []
 
--- room is the number of places for values
+-- the causes of a list of selections; room is the number of places for values
 unfoldable pub listCauses : List ℕ → List ℕ → ℕ → ℕ → ℕ → List Cause
-listCauses file selections count tally room = fileCauses file ++ listInputs file selections count tally room
+listCauses file selections count tally room =
+    fileCauses file ++ listInputs (familyOf file .peptides) (regionCount (familyOf file)) selections count tally room
 
 unfoldable pub pathCauses : ℕ → List ℕ → List Cause
 pathCauses m path =

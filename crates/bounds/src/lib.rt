@@ -100,7 +100,7 @@ pub fn bound_list(
     write_bounds(file, selections, count, values);
     let charge = charge_of(region_count(file), count);
     Listed {
-        number,
+        number: 0,
         charge,
         tally: tally + (charge as u32),
     }

@@ -13,13 +13,42 @@ ghost use Rattle.reader.specs.Causes.{firstCause};
 ghost use Rattle.reader.specs.WellFormed.{WellFormed};
 ghost use Rattle.bounds.specs.SelectionLists.{listBounds};
 ghost use Rattle.bounds.specs.Tally.{chargeOf};
-ghost use Rattle.bounds.specs.Calls.{listCauses};
+ghost use Rattle.bounds.specs.Calls.{listInputs, listCauses};
 
 // The charge of a list of so many selections: K when it has a selection.
 pub(crate) fn charge_of(regions: u16, count: u16) -> u16
     ensures { λ r. ⌜ r ≡ chargeOf regions count ⌝ }
 {
     if count == 0 { 0 } else { regions }
+}
+
+// The first cause after those of the file, of a list of selections and an output of so many places, or 0.
+fn input_cause(
+    peptides: u16,
+    regions: u16,
+    selections: &[u8],
+    count: u16,
+    tally: u32,
+    room: usize,
+) -> u16
+    ensures { λ r. ⌜ r ≡ firstCause (listInputs peptides regions (now (selections .entry)) count tally room) ⌝ }
+{
+    if bad_selection(selections, (count as usize) * (peptides as usize)) {
+        return 14;
+    }
+    if room < count as usize {
+        return 16;
+    }
+    if 32 < count {
+        return 24;
+    }
+    // the sum might not fit: the charge is held against what the tally has left
+    let charge = charge_of(regions, count);
+    if 4294967295 - tally < charge as u32 {
+        25
+    } else {
+        0
+    }
 }
 
 // The first cause of a call with a list of selections and an output of so many places, or 0.
@@ -31,24 +60,7 @@ pub(crate) fn list_cause(file: &[u8], selections: &[u8], count: u16, tally: u32,
             peptides,
             leaves: _,
             regions,
-        } => {
-            if bad_selection(selections, (count as usize) * (peptides as usize)) {
-                return 14;
-            }
-            if room < count as usize {
-                return 16;
-            }
-            if 32 < count {
-                return 24;
-            }
-            // the tally and a charge may be too much for 32 bits: the charge is held against what is left
-            let charge = charge_of(regions, count);
-            if 4294967295 - tally < charge as u32 {
-                25
-            } else {
-                0
-            }
-        }
+        } => input_cause(peptides, regions, selections, count, tally, room),
         Checked::Refused(number) => number,
     }
 }

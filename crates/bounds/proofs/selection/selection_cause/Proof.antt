@@ -17,6 +17,9 @@ check-requires c κs = search needs
 enum-known-peptides : tie.Need-enum-known-peptides
 enum-known-peptides c = search needs
 
+cast-bad-selection : tie.Need-cast-bad-selection
+cast-bad-selection c = search needs
+
 bad-selection-requires : tie.Need-bad-selection-requires
 bad-selection-requires c κs = search needs
 
@@ -58,6 +61,7 @@ selection-cause-spec =
     (tie.spec
     check-requires
     enum-known-peptides
+    cast-bad-selection
     bad-selection-requires
     returns
     cast-if2
