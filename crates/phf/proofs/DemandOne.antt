@@ -24,10 +24,13 @@ use Rattle.reader.specs.declared.Checked.the-variants as told
 use Rattle.reader.proofs.First.{none-or-some}
 use Rattle.reader.proofs.Accepting.{accepted-header, whole-length, part-accepted, part-refused, start-accepted, start-refused}
 use Rattle.bounds.specs.Selections.{boundOf, takenOf, totalsOf}
+use Rattle.bounds.specs.SelectionLists.{listBounds}
+use Rattle.bounds.specs.Tally.{chargeOf}
 use Rattle.bounds.specs.Curves.{curveValues, curveMarks, cutOf, firstRepeat, IsFirstRepeat}
-use Rattle.bounds.specs.Calls.{reportBound, causesWithRoom, pathCauses, inputCauses, selectionCauses, curveCauses, cutCauses, BoundAnswers, TakenWrites, TotalsWrites, CurveAnswers, CurveValuesWrites, CurveMarksWrites, CurveDeclines, CutAnswers}
+use Rattle.bounds.specs.Calls.{reportBound, causesWithRoom, pathCauses, inputCauses, selectionCauses, listInputs, listCauses, curveCauses, cutCauses, BoundAnswers, TakenWrites, TotalsWrites, ListAnswers, ListWrites, CurveAnswers, CurveValuesWrites, CurveMarksWrites, CurveDeclines, CutAnswers}
 use Rattle.bounds.specs.declared.Bounded.{Bounded}
 use Rattle.bounds.specs.declared.Bounded.the-variants as bounded
+use Rattle.bounds.specs.declared.Listed.{Listed}
 use Rattle.bounds.specs.declared.Curved.{Curved}
 use Rattle.bounds.specs.declared.Curved.the-variants as curved
 use Rattle.bounds.specs.declared.CutFound.{CutFound}
@@ -45,18 +48,19 @@ use Rattle.volcano.specs.Rules.{chosen}
 use Rattle.volcano.specs.Calls.{chooseCauses, ChooseAnswers, ChooseWrites}
 use Rattle.volcano.specs.declared.Rule.{Rule}
 use Rattle.volcano.specs.declared.Rule.the-variants.{AtMost, Between, Volcano}
-use Rattle.phf.specs.Fields.{valueAt, valueWith, checkedFields, partFields, boundedFields, curvedFields, cuttingFields, reducedFields, comparedFields}
-use Rattle.phf.specs.Calls.{PhfCheckAnswers, PhfRegionsAnswers, PhfBoundAnswers, PhfCurveAnswers, PhfCutAnswers, PhfReduceAnswers, PhfSameAnswers, PhfHybridAnswers}
+use Rattle.phf.specs.Fields.{valueAt, valueWith, checkedFields, partFields, boundedFields, listedFields, curvedFields, cuttingFields, reducedFields, comparedFields}
+use Rattle.phf.specs.Calls.{PhfCheckAnswers, PhfRegionsAnswers, PhfBoundAnswers, PhfListAnswers, PhfCurveAnswers, PhfCutAnswers, PhfReduceAnswers, PhfSameAnswers, PhfHybridAnswers}
 use Rattle.phf.specs.Obeys.{numbers, NoZero, NoneHolds, FirstHolds, Obeys}
 use Rattle.phf.specs.declared.PhfChecked.{PhfChecked}
 use Rattle.phf.specs.declared.PhfPart.{PhfPart}
 use Rattle.phf.specs.declared.PhfBounded.{PhfBounded}
+use Rattle.phf.specs.declared.PhfListed.{PhfListed}
 use Rattle.phf.specs.declared.PhfCurved.{PhfCurved}
 use Rattle.phf.specs.declared.PhfCutting.{PhfCutting}
 use Rattle.phf.specs.declared.PhfReduced.{PhfReduced}
 use Rattle.phf.specs.declared.PhfCompared.{PhfCompared}
 use Rattle.phf.proofs.FieldLaws.{part-fields, no-part-fields, curve-refusal-fields, cut-refusal-fields}
-use Rattle.phf.proofs.Obeying.{first-is, numbered-if, none-is, Lent, nothing-lent, lent-too, lent-one, made-obeys, number-obeys, remade-obeys, path-obeys}
+use Rattle.phf.proofs.Obeying.{first-is, numbered-if, none-is, Lent, nothing-lent, lent-too, lent-one, made-obeys, number-obeys, remade-obeys, path-obeys, charged-obeys}
 use Rattle.phf.proofs.LibraryAnswers.{checkedOf, boundedOf, reducedOf, comparedOf, checked-remade, bounded-remade, reduced-remade, compared-remade, yes-or-no, curvedOf, cutFoundOf, curvedBy, cutFoundBy, curve-told, cut-told, curve-refusal, cut-refusal}
 
 pub record DemandOne : Type 0 where
@@ -68,6 +72,7 @@ pub record DemandOne : Type 0 where
   pub check-tries : (file : List ℕ) → numbers (fileCauses file) ≡ 1 ∷ 2 ∷ 3 ∷ 4 ∷ 5 ∷ 6 ∷ 7 ∷ 8 ∷ 9 ∷ 10 ∷ []
   pub parents-tries : (file out : List ℕ) → numbers (parentsCauses file out) ≡ 1 ∷ 2 ∷ 3 ∷ 4 ∷ 5 ∷ 6 ∷ 7 ∷ 8 ∷ 9 ∷ 10 ∷ 16 ∷ []
   pub bound-tries : (file selection out : List ℕ) → numbers (selectionCauses file selection out) ≡ 1 ∷ 2 ∷ 3 ∷ 4 ∷ 5 ∷ 6 ∷ 7 ∷ 8 ∷ 9 ∷ 10 ∷ 14 ∷ 16 ∷ []
+  pub bound-list-tries : (file selections : List ℕ) (count tally room : ℕ) → numbers (listCauses file selections count tally room) ≡ 1 ∷ 2 ∷ 3 ∷ 4 ∷ 5 ∷ 6 ∷ 7 ∷ 8 ∷ 9 ∷ 10 ∷ 14 ∷ 16 ∷ 24 ∷ 25 ∷ []
   pub choose-tries : (m : ℕ) (ps folds : List Float) (rule : Rule) (room : ℕ) → numbers (chooseCauses m ps folds rule room) ≡ 2 ∷ 17 ∷ 18 ∷ 19 ∷ []
   pub curve-tries : (file path values marks : List ℕ) → numbers (curveCauses file path values marks) ≡ 1 ∷ 2 ∷ 3 ∷ 4 ∷ 5 ∷ 6 ∷ 7 ∷ 8 ∷ 9 ∷ 10 ∷ 11 ∷ 12 ∷ 13 ∷ 16 ∷ []
   pub cut-tries : (file path : List ℕ) (a b : ℕ) → numbers (cutCauses file path a b) ≡ 1 ∷ 2 ∷ 3 ∷ 4 ∷ 5 ∷ 6 ∷ 7 ∷ 8 ∷ 9 ∷ 10 ∷ 11 ∷ 12 ∷ 13 ∷ 15 ∷ []
@@ -85,6 +90,10 @@ pub record DemandOne : Type 0 where
       → Obeys (selectionCauses file selection taken)
       r (λ n. record { number = n; bound = 0 }) (record { number = 0; bound = boundOf (familyOf file) selection })
       (new ∷ []) (taken ∷ []) (atStart (takenOf (familyOf file) selection) taken ∷ [])
+  pub phf-bounds-list : (file selections : List ℕ) (count tally : ℕ) (values new : List ℕ) (r : PhfListed) → PhfListAnswers file selections count tally values r → ListWrites file selections count tally values new
+      → Obeys (listCauses file selections count tally (length values))
+      r (λ n. record { number = n; charge = 0; tally = tally }) (record { number = 0; charge = chargeOf (regionCount (familyOf file)) count; tally = tally + chargeOf (regionCount (familyOf file)) count })
+      (new ∷ []) (values ∷ []) (atStart (listBounds (familyOf file) selections count) values ∷ [])
   pub phf-choose-at-most : (m : ℕ) (ps folds : List Float) (cut : Float) (out new : List ℕ) (r : ℕ) → ChooseAnswers m ps folds (AtMost cut) out r → ChooseWrites m ps folds (AtMost cut) out new
       → Obeys (chooseCauses m ps folds (AtMost cut) (length out)) r (λ n. n) 0 (new ∷ []) (out ∷ []) (atStart (chosen (AtMost cut) ps folds) out ∷ [])
   pub phf-choose-between : (m : ℕ) (ps folds : List Float) (low high : Float) (out new : List ℕ) (r : ℕ) → ChooseAnswers m ps folds (Between low high) out r → ChooseWrites m ps folds (Between low high) out new
@@ -128,6 +137,10 @@ pub record DemandOne : Type 0 where
       → Obeys (selectionCauses file selection out)
       r bounded.Refused (bounded.Bound (boundOf (familyOf file) selection))
       (new ∷ []) (out ∷ []) (atStart (totalsOf (familyOf file) selection) out ∷ [])
+  pub bound-list : (file selections : List ℕ) (count tally : ℕ) (values new : List ℕ) (r : Listed) → ListAnswers file selections count tally values r → ListWrites file selections count tally values new
+      → Obeys (listCauses file selections count tally (length values))
+      r (λ n. record { number = n; charge = 0; tally = tally }) (record { number = 0; charge = chargeOf (regionCount (familyOf file)) count; tally = tally + chargeOf (regionCount (familyOf file)) count })
+      (new ∷ []) (values ∷ []) (atStart (listBounds (familyOf file) selections count) values ∷ [])
   pub choose : (m : ℕ) (ps folds : List Float) (rule : Rule) (out new : List ℕ) (r : ℕ) → ChooseAnswers m ps folds rule out r → ChooseWrites m ps folds rule out new
       → Obeys (chooseCauses m ps folds rule (length out)) r (λ n. n) 0 (new ∷ []) (out ∷ []) (atStart (chosen rule ps folds) out ∷ [])
   pub curve : (file path values marks newValues newMarks : List ℕ) (r : Curved) → CurveAnswers file path values marks r → CurveDeclines file path values marks r → CurveValuesWrites file path values marks newValues → CurveMarksWrites file path values marks newMarks
@@ -232,7 +245,7 @@ module _ (place fileAt : ℕ × ℕ) (part file : List ℕ) (h : RegionsGiven pl
   part-of-refused r = (h .bytes ∙ part-refused file r, h .part .block, omega (arith, h .part .place, start-refused file r))
 
 pub demand-one : DemandOne
-unfolding headerCauses familyCauses fileCauses parentsCauses causesWithRoom pathCauses inputCauses curveCauses cutCauses reduceCauses compareCauses chooseCauses roomAndPValues fromPInputs fromPCauses hybridInputs hybridCauses checked checkedFields boundedFields curvedFields cuttingFields reducedFields comparedFields valueAt valueWith reducedCounts comparison checkedOf boundedOf reducedOf comparedOf curvedOf cutFoundOf
+unfolding headerCauses familyCauses fileCauses parentsCauses causesWithRoom listInputs listCauses pathCauses inputCauses curveCauses cutCauses reduceCauses compareCauses chooseCauses roomAndPValues fromPInputs fromPCauses hybridInputs hybridCauses checked checkedFields boundedFields listedFields curvedFields cuttingFields reducedFields comparedFields valueAt valueWith reducedCounts comparison checkedOf boundedOf reducedOf comparedOf curvedOf cutFoundOf
 demand-one =
     record {
       first-cause = first-is;
@@ -240,6 +253,7 @@ demand-one =
       check-tries = λ file. refl;
       parents-tries = λ file out. refl;
       bound-tries = λ file selection out. refl;
+      bound-list-tries = λ file selections count tally room. refl;
       choose-tries = λ m ps folds rule room. refl;
       curve-tries = λ file path values marks. refl;
       cut-tries = λ file path a b. refl;
@@ -249,6 +263,7 @@ demand-one =
       hybrid-tries = λ file path ps level room. refl;
       phf-check = λ file r h. made-obeys (fileCauses file) _ checkedFields r [] [] [] h (nothing-lent (fileCauses file));
       phf-bound = λ file selection taken new r h w. made-obeys (selectionCauses file selection taken) _ boundedFields r (new ∷ []) _ _ h (lent-one _ _ _ _ w);
+      phf-bounds-list = λ file selections count tally values new r h w. charged-obeys (listCauses file selections count tally (length values)) _ tally listedFields r (new ∷ []) _ _ h (lent-one _ _ _ _ w);
       phf-choose-at-most = λ m ps folds cut. choose-obeys m ps folds (AtMost cut);
       phf-choose-between = λ m ps folds low high. choose-obeys m ps folds (Between low high);
       phf-choose-volcano = λ m ps folds cut fold. choose-obeys m ps folds (Volcano cut fold);
@@ -262,6 +277,7 @@ demand-one =
       parents = λ file out new r h w. remade-obeys (parentsCauses file out) _ report checkedOf checked-remade r (new ∷ []) _ _ h (lent-one _ _ _ _ w);
       bound = λ file selection taken new r h w. remade-obeys (selectionCauses file selection taken) _ reportBound boundedOf bounded-remade r (new ∷ []) _ _ h (lent-one _ _ _ _ w);
       inside-totals = λ file selection out new r h w. remade-obeys (selectionCauses file selection out) _ reportBound boundedOf bounded-remade r (new ∷ []) _ _ h (lent-one _ _ _ _ w);
+      bound-list = λ file selections count tally values new r h w. charged-obeys (listCauses file selections count tally (length values)) _ tally (λ l. l) r (new ∷ []) _ _ h (lent-one _ _ _ _ w);
       choose = choose-obeys;
       curve = λ file path values marks newValues newMarks r h d v w. path-obeys _ path [] curvedBy _ (curve-refusal path) r _ _ _ (curve-told _ path r h d) (curve-lent file path values marks newValues newMarks v w);
       cut = λ file path a b r h. path-obeys _ path _ cutFoundBy _ (cut-refusal path) r [] [] [] (cut-told _ path _ r h) (nothing-lent _);

@@ -1,5 +1,5 @@
--- How a promise in the words of `answer`, `pathAnswer` and `written` becomes demand 1.
-use Prim.Native.Nat.{ℕ}
+-- How a promise in the words of `answer`, `pathAnswer`, `listed` and `written` becomes demand 1.
+use Prim.Native.Nat.{ℕ, _+_}
 use mathlib.Core.List.{List, [], _∷_, _++_}
 use mathlib.Core.Path.{_≡_, refl, sym, ap, ap₂, _∙_}
 use mathlib.Core.Logic.{⊎-elim, _↔_}
@@ -7,7 +7,9 @@ use Rattle.reader.specs.Causes.{Cause, firstCause}
 use Rattle.reader.specs.Calls.{Report, answer, written, atStart}
 use Rattle.reader.proofs.Bools.{test}
 use Rattle.reader.proofs.First.{Numbered, first-holds, first-fails, head-clear, answers, declines, writes, leaves-unchanged}
-use Rattle.bounds.specs.Calls.{pathRefusal, pathAnswer}
+use Rattle.bounds.specs.declared.Listed.{Listed}
+use Rattle.bounds.specs.Calls.{pathRefusal, pathAnswer, listed}
+use Rattle.bounds.proofs.Calls.ListCalls.{charges-nothing, charges}
 use Rattle.bounds.proofs.Calls.Answering.{path-answers, path-refuses}
 use Rattle.phf.specs.Obeys.{numbers, NoZero, NoneHolds, FirstHolds, Obeys}
 
@@ -108,4 +110,13 @@ path-obeys cs path result make refusal refuses r after before work h lent =
     record {
       declined = λ some. (h ∙ ap make (path-refuses cs path result some) ∙ refuses (firstCause cs) some, lent .0 some);
       done = λ none. (h ∙ ap make (path-answers cs path result none), lent .1 none);
+    }
+
+-- an answer that is made of the number, a charge and a tally
+pub charged-obeys : {A : Type 0} (cs : List Cause) (charge tally : ℕ) (make : Listed → A) (r : A) (after before work : List (List ℕ)) → r ≡ make (listed cs charge tally) → Lent cs after before work
+    → Obeys cs r (λ n. make (record { number = n; charge = 0; tally = tally })) (make (record { number = 0; charge = charge; tally = tally + charge })) after before work
+charged-obeys cs charge tally make r after before work h lent =
+    record {
+      declined = λ some. (h ∙ ap make (sym (charges-nothing cs charge tally (firstCause cs) refl some)), lent .0 some);
+      done = λ none. (h ∙ ap make (sym (charges cs charge tally none)), lent .1 none);
     }

@@ -1,22 +1,24 @@
 -- What the calls of the C interface promise, defined from their inputs. What they leave in lent lists is promised in the words of
--- the libraries (`TakenWrites`, `ChooseWrites`, `CurveValuesWrites`, `CurveMarksWrites`, `ReduceWrites`, `FromPWrites`, `HybridWrites`),
+-- the libraries (`TakenWrites`, `ListWrites`, `ChooseWrites`, `CurveValuesWrites`, `CurveMarksWrites`, `ReduceWrites`, `FromPWrites`, `HybridWrites`),
 -- and so are the answers of a choice and of bounds from p-values (`ChooseAnswers`, `FromPAnswers`), which are a number there too. The
 -- theorem of demand 1 (`DemandOne`) rests on these promises.
 use Prim.Native.Nat.{ℕ}
 use mathlib.Core.List.{List, [], _∷_}
 use mathlib.Core.Path.{_≡_}
 use lib.ListN.{length, take, drop}
-use Rattle.reader.specs.Family.{familyOf}
+use Rattle.reader.specs.Family.{familyOf, regionCount}
 use Rattle.reader.specs.Calls.{answer, checked, regionPart}
 use Rattle.bounds.specs.Selections.{boundOf}
+use Rattle.bounds.specs.Tally.{chargeOf}
 use Rattle.bounds.specs.Curves.{cutOf}
-use Rattle.bounds.specs.Calls.{selectionCauses, curveCauses, cutCauses, pathAnswer}
+use Rattle.bounds.specs.Calls.{selectionCauses, listCauses, listed, curveCauses, cutCauses, pathAnswer}
 use Rattle.reduction.specs.Calls.{reduceCauses, reducedCounts, compareCauses, comparison}
 use Rattle.pvalues.specs.Calls.{hybridCauses}
-use Rattle.phf.specs.Fields.{checkedFields, partFields, boundedFields, curvedFields, cuttingFields, reducedFields, comparedFields}
+use Rattle.phf.specs.Fields.{checkedFields, partFields, boundedFields, listedFields, curvedFields, cuttingFields, reducedFields, comparedFields}
 use Rattle.phf.specs.declared.PhfChecked.{PhfChecked}
 use Rattle.phf.specs.declared.PhfPart.{PhfPart}
 use Rattle.phf.specs.declared.PhfBounded.{PhfBounded}
+use Rattle.phf.specs.declared.PhfListed.{PhfListed}
 use Rattle.phf.specs.declared.PhfCurved.{PhfCurved}
 use Rattle.phf.specs.declared.PhfCutting.{PhfCutting}
 use Rattle.phf.specs.declared.PhfReduced.{PhfReduced}
@@ -36,6 +38,10 @@ PhfRegionsPlaced file r = take (r .length) (drop (r .offset) file) ≡ regionPar
 
 abbrev pub PhfBoundAnswers : List ℕ → List ℕ → List ℕ → PhfBounded → Type 0
 PhfBoundAnswers file selection taken r = r ≡ boundedFields (answer (selectionCauses file selection taken) (boundOf (familyOf file) selection ∷ []))
+
+abbrev pub PhfListAnswers : List ℕ → List ℕ → ℕ → ℕ → List ℕ → PhfListed → Type 0
+PhfListAnswers file selections count tally values r =
+    r ≡ listedFields (listed (listCauses file selections count tally (length values)) (chargeOf (regionCount (familyOf file)) count) tally)
 
 abbrev pub PhfCurveAnswers : List ℕ → List ℕ → List ℕ → List ℕ → PhfCurved → Type 0
 PhfCurveAnswers file path values marks r = r ≡ curvedFields (pathAnswer (curveCauses file path values marks) path [])

@@ -8,9 +8,11 @@ use lib.Dec.{eqb}
 use Rattle.reader.specs.Family.{familyOf, leaves, regionCount, regionsOffset}
 use Rattle.reader.specs.Causes.{firstCause, fileCauses}
 use Rattle.reader.specs.Calls.{Report}
+use Rattle.bounds.specs.declared.Listed.{Listed}
 use Rattle.phf.specs.declared.PhfChecked.{PhfChecked}
 use Rattle.phf.specs.declared.PhfPart.{PhfPart}
 use Rattle.phf.specs.declared.PhfBounded.{PhfBounded}
+use Rattle.phf.specs.declared.PhfListed.{PhfListed}
 use Rattle.phf.specs.declared.PhfCurved.{PhfCurved}
 use Rattle.phf.specs.declared.PhfCutting.{PhfCutting}
 use Rattle.phf.specs.declared.PhfReduced.{PhfReduced}
@@ -36,6 +38,10 @@ partFields file =
 
 unfoldable pub boundedFields : Report → PhfBounded
 boundedFields r = record { number = r .number; bound = valueAt r 0 }
+
+-- the answer of `bound_list` has these fields already
+unfoldable pub listedFields : Listed → PhfListed
+listedFields r = record { number = r .number; charge = r .charge; tally = r .tally }
 
 unfoldable pub reducedFields : Report → PhfReduced
 reducedFields r = record { number = r .number; length = valueAt r 0; regions = valueAt r 1 }

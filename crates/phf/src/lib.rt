@@ -1,6 +1,6 @@
 // The C interface: the calls of the libraries under C names, and nothing else. include/phf.h is this file as C sees it.
 // A slice is a pointer and a number of elements. An answer is a struct by value: the number of the first cause that holds,
-// 0 for none, then the values; a field that has no value is 0. That of a choice, and of bounds from p-values, is the number alone.
+// 0 for none, then the values; a field that has no value is 0, but a tally comes back as it came. That of a choice, and of bounds from p-values, is the number alone.
 use bounds::Bounded;
 use bounds::Curved;
 use bounds::CutFound;
@@ -9,12 +9,12 @@ use reduction::Compared;
 use reduction::ReducedFile;
 use volcano::Rule;
 ghost use mathlib.Core.Path.{_≡_};
-ghost use Rattle.bounds.specs.Calls.{reportCurve, TakenWrites, CurveValuesWrites, CurveMarksWrites};
+ghost use Rattle.bounds.specs.Calls.{reportCurve, TakenWrites, ListWrites, CurveValuesWrites, CurveMarksWrites};
 ghost use Rattle.pvalues.specs.Calls.{FromPAnswers, FromPWrites, HybridWrites};
 ghost use Rattle.reduction.specs.Calls.{ReduceWrites};
 ghost use Rattle.volcano.specs.Calls.{ChooseAnswers, ChooseWrites};
 ghost use Rattle.volcano.specs.declared.Rule.the-variants.{AtMost, Between, Volcano};
-ghost use Rattle.phf.specs.Calls.{PhfCheckAnswers, PhfRegionsAnswers, PhfRegionsPlaced, PhfBoundAnswers, PhfCurveAnswers, PhfCutAnswers, PhfReduceAnswers, PhfSameAnswers, PhfHybridAnswers};
+ghost use Rattle.phf.specs.Calls.{PhfCheckAnswers, PhfRegionsAnswers, PhfRegionsPlaced, PhfBoundAnswers, PhfListAnswers, PhfCurveAnswers, PhfCutAnswers, PhfReduceAnswers, PhfSameAnswers, PhfHybridAnswers};
 ghost use Rattle.phf.specs.Fields.{curvedFields};
 
 #[repr(C)]
@@ -35,6 +35,13 @@ pub struct PhfPart {
 pub struct PhfBounded {
     pub number: u16,
     pub bound: u16,
+}
+
+#[repr(C)]
+pub struct PhfListed {
+    pub number: u16,
+    pub charge: u16,
+    pub tally: u32,
 }
 
 #[repr(C)]
@@ -120,6 +127,26 @@ pub extern "C" fn phf_bound(file: &[u8], selection: &[u8], taken: &mut [u8]) -> 
     match bounds::bound(file, selection, taken) {
         Bounded::Bound(bound) => PhfBounded { number: 0, bound },
         Bounded::Refused(number) => PhfBounded { number, bound: 0 },
+    }
+}
+
+// The bounds of up to 32 selections, joined in one buffer, and the tally with the list's charge added.
+#[no_mangle]
+pub extern "C" fn phf_bounds_list(
+    file: &[u8],
+    selections: &[u8],
+    count: u16,
+    tally: u32,
+    values: &mut [u16],
+) -> PhfListed
+    ensures { λ r. ⌜ PhfListAnswers (now (file .entry)) (now (selections .entry)) count tally (now (values .entry)) r ⌝ }
+    ensures { λ _. ⌜ ListWrites (now (file .entry)) (now (selections .entry)) count tally (now (values .entry)) (now (values .exit)) ⌝ }
+{
+    let answer = bounds::bound_list(file, selections, count, tally, values);
+    PhfListed {
+        number: answer.number,
+        charge: answer.charge,
+        tally: answer.tally,
     }
 }
 
