@@ -162,7 +162,7 @@ module _ (f : AcceptedFile) (b : BoundCall f) where
   none : firstCause (selectionCauses (f .file) (b .selection) (b .old-taken)) ≡ 0
   none = selection-clear (f .file) (b .selection) (length (b .old-taken)) (f .accepted) (b .is-selection) (b .taken-room)
 
-  answers-bound : b .answer ≡ bounded.Bound theBound
+  pub answers-bound : b .answer ≡ bounded.Bound theBound
   unfolding reportBound
   answers-bound = go (b .answer) (b .answers)
     where

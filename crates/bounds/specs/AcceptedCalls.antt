@@ -1,5 +1,6 @@
--- Calls of `curve`, `cut` and `bound` that have nothing to decline: an accepted file, a path or a selection, and room for what is
--- written. Of the answer and of what the call leaves in the lent lists they hold the promises of the contracts that the theorem needs.
+-- Calls of `curve`, `cut`, `bound` and `bound_list` that have nothing to decline: an accepted file, a path, a selection or a list of
+-- them, and room for what is written. Of the answer and of what the call leaves in the lent lists they hold the promises of the contracts
+-- that the theorems need.
 use Prim.Native.Nat.{ℕ, _+_, _≤_}
 use mathlib.Core.Bool.{false}
 use mathlib.Core.List.{List}
@@ -8,11 +9,14 @@ use lib.ListN.{length}
 use Rattle.reader.specs.Family.{familyOf, regionCount}
 use Rattle.reader.specs.Causes.{AcceptedFile}
 use Rattle.bounds.specs.Selections.{cause14}
+use Rattle.bounds.specs.SelectionLists.{listCause14}
+use Rattle.bounds.specs.Tally.{chargeOf, added}
 use Rattle.bounds.specs.Curves.{cause15}
 use Rattle.bounds.specs.declared.Bounded.{Bounded}
+use Rattle.bounds.specs.declared.Listed.{Listed}
 use Rattle.bounds.specs.declared.Curved.{Curved}
 use Rattle.bounds.specs.declared.CutFound.{CutFound}
-use Rattle.bounds.specs.Calls.{IsPath, BoundAnswers, TakenWrites, CurveValuesWrites, CurveMarksWrites, CurveDeclines, CutAnswers}
+use Rattle.bounds.specs.Calls.{IsPath, BoundAnswers, TakenWrites, ListAnswers, ListWrites, CurveValuesWrites, CurveMarksWrites, CurveDeclines, CutAnswers}
 
 -- a call of `curve`
 pub record CurveCall (f : AcceptedFile) : Type 0 where
@@ -57,3 +61,21 @@ pub record BoundCall (f : AcceptedFile) : Type 0 where
   -- its promises
   pub answers : BoundAnswers (f .file) selection old-taken answer
   pub writes-taken : TakenWrites (f .file) selection old-taken taken
+
+-- a call of `bound_list`
+pub record ListCall (f : AcceptedFile) : Type 0 where
+  pub selections : List ℕ
+  pub count : ℕ
+  pub tally : ℕ
+  pub is-list : listCause14 (familyOf (f .file) .peptides) selections count ≡ false
+  -- the lent list before it
+  pub old-values : List ℕ
+  pub values-room : count ≤ length old-values
+  pub few : count ≤ 32
+  pub tally-room : added tally (chargeOf (regionCount (familyOf (f .file))) count) ≤ 4294967295
+  -- its answer, and the list after it
+  pub answer : Listed
+  pub values : List ℕ
+  -- its promises
+  pub answers : ListAnswers (f .file) selections count tally old-values answer
+  pub writes : ListWrites (f .file) selections count tally old-values values

@@ -1,21 +1,19 @@
 -- What a call with a list of selections answers and writes, from what its causes say.
-use Prim.Native.Nat.{ℕ, _+_, _*_, _-_, _<_, _≤_}
-use mathlib.Core.Bool.{cond}
+use Prim.Native.Nat.{ℕ, _+_, _*_, _≤_}
+use mathlib.Core.Bool.{true, false, cond}
 use mathlib.Core.List.{List, _++_}
 use mathlib.Core.Path.{_≡_, refl, sym, ap, _∙_}
-use native.Mathlib.Nat.{mul-le-mul, add-sub-cancel-left}
 use native.Mathlib.Omega.{arith}
 use lib.Dec.{ltb}
-use lib.ListN.{length, take, drop, length-drop}
-use lib.Seq.{length-take-le}
-use borrow.Author.Tests.{ltb-false, eq-eqb, ne-eqb}
+use lib.ListN.{length, drop}
+use borrow.Author.Tests.{ltb-false, le-ltb, ne-eqb}
 use Rattle.reader.specs.Family.{familyOf, regionCount}
 use Rattle.reader.specs.Causes.{Cause, firstCause, fileCauses, Accepted}
 use Rattle.reader.specs.Calls.{written, short}
 use Rattle.reader.proofs.First.{head-clear, join-clear, join-holds, clear-left, clear-right, writes, leaves-unchanged}
 use Rattle.reader.proofs.Accepting.{file-numbered}
 use Rattle.reader.proofs.Lists.{length-tabulate}
-use Rattle.bounds.specs.SelectionLists.{selectionAt, listBounds, listCause14, cause24}
+use Rattle.bounds.specs.SelectionLists.{listBounds, listCause14, cause24}
 use Rattle.bounds.specs.Tally.{chargeOf, added, cause25}
 use Rattle.bounds.specs.declared.Listed.{Listed}
 use Rattle.bounds.specs.Calls.{listInputs, listCauses, charged, listed}
@@ -41,6 +39,17 @@ module _ (file selections : List ℕ) (count tally room : ℕ) where
   unfolding listCauses
   list-of-accepted a = join-clear (fileCauses file) _ (file-numbered file) a
 
+  pub list-declines : Accepted file → listCause14 (familyOf file .peptides) selections count ≡ true
+      → firstCause (listCauses file selections count tally room) ≡ 14
+  list-declines a h = list-of-accepted a ∙ inputs-judged _ _ selections count tally room ∙ rw h
+
+  pub list-clear : Accepted file → listCause14 (familyOf file .peptides) selections count ≡ false → count ≤ room → count ≤ 32
+      → tally + chargeOf (regionCount (familyOf file)) count ≤ 4294967295 → firstCause (listCauses file selections count tally room) ≡ 0
+  list-clear a h r f t =
+      list-of-accepted a
+      ∙ inputs-judged _ _ selections count tally room
+      ∙ rw (h, le-ltb room count r, le-ltb 32 count f, le-ltb 4294967295 (tally + chargeOf (regionCount (familyOf file)) count) t)
+
   -- Where none holds, the file is accepted, the buffer has all the bytes, and there is room for the values and for the charge.
   pub no-list-cause : firstCause (listCauses file selections count tally room) ≡ 0
       → record {
@@ -63,35 +72,26 @@ module _ (file selections : List ℕ) (count tally room : ℕ) where
         fits = ltb-false 4294967295 (tally + chargeOf (regionCount (familyOf file)) count) (e .0);
       }
 
--- Selection i is a part of the buffer: it begins after those before it, and ends within.
-module _ (m i count start : ℕ) (selections : List ℕ) (begins : start ≡ i * m) (h : i < count) (whole : length selections ≡ count * m) where
-  pub selection-ends : start + m ≤ length selections
-  selection-ends =
-      let next : i + 1 ≤ count = omega arith in
-      let same : m ≤ m = omega arith in
-      omega (arith, mul-le-mul next same)
-
-  pub selection-part : take (start + m - start) (drop start selections) ≡ selectionAt m selections i
-  unfolding selectionAt
-  selection-part = rw (begins, add-sub-cancel-left (i * m) m)
-
-  pub selection-whole : length (selectionAt m selections i) ≡ m
-  unfolding selectionAt
-  selection-whole =
-      length-take-le m (drop (i * m) selections) (omega (arith, length-drop (i * m) selections, selection-ends, begins))
-
 module _ (cs : List Cause) (charge tally : ℕ) where
   -- The answers.
 
+  pub charged-all : firstCause cs ≡ 0 → charged cs charge ≡ charge
+  unfolding charged
+  charged-all h = rw h
+
+  pub charged-nothing : (firstCause cs ≡ 0 → ⊥) → charged cs charge ≡ 0
+  unfolding charged
+  charged-nothing h = rw (ne-eqb (firstCause cs) 0 h)
+
   pub charges-nothing : (n : ℕ) → n ≡ firstCause cs → (n ≡ 0 → ⊥) → record { number = n; charge = 0; tally = tally } ≡ listed cs charge tally
-  unfolding listed charged added
+  unfolding listed added
   charges-nothing n e h =
       let none : tally ≡ tally + 0 = omega arith in
-      rw (ne-eqb (firstCause cs) 0 (λ z. h (e ∙ z)), e) (ap (λ (t : ℕ). record { number = firstCause cs; charge = 0; tally = t }) none)
+      rw (charged-nothing (λ z. h (e ∙ z)), e) (ap (λ (t : ℕ). record { number = firstCause cs; charge = 0; tally = t }) none)
 
   pub charges : firstCause cs ≡ 0 → record { number = 0; charge = charge; tally = tally + charge } ≡ listed cs charge tally
-  unfolding listed charged added
-  charges h = rw h
+  unfolding listed added
+  charges h = rw (charged-all h, h)
 
 module _ (file selections values : List ℕ) (count tally : ℕ) where
   abbrev causes : List Cause

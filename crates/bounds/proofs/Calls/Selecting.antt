@@ -7,8 +7,8 @@ use lib.ListN.{length, getD}
 use lib.Dec.{eqb, ltb}
 use borrow.Author.Tests.{eq-eqb, ne-eqb, eqb-true, lt-ltb, not-false}
 use Rattle.reader.specs.Lists.{someBelow}
-use Rattle.reader.proofs.Bools.{or-r, or-fails-l}
-use Rattle.reader.proofs.Below.{some-at}
+use Rattle.reader.proofs.Bools.{or-r, or-fails-l, or-fails-r}
+use Rattle.reader.proofs.Below.{some-at, none-at}
 use Rattle.bounds.specs.Selections.{cause14}
 
 -- Cause 14.
@@ -38,3 +38,9 @@ module _ (m : ℕ) (selection : List ℕ) where
   right-length h =
       eqb-true (length selection) m
       (not-false (eqb (length selection) m) (or-fails-l (not (eqb (length selection) m)) (someBelow (length selection) (overOne selection)) h))
+
+  -- of which none is over 1
+  pub right-byte : cause14 m selection ≡ false → (i : ℕ) → i < length selection → overOne selection i ≡ false
+  unfolding cause14
+  right-byte h i l =
+      none-at (overOne selection) (length selection) i (or-fails-r (not (eqb (length selection) m)) (someBelow (length selection) (overOne selection)) h) l

@@ -24,7 +24,7 @@ returns : tie.Need-returns
 returns c =
     let s = now (c .before .before .before .before .before .before .before .args .file) in
     let a = learns-accepted s _ _ _ (ap report (sym (c .before .before .peptides .given .1)) ∙ c .before .before .before .before .check .ensures) in
-    c .input-cause .ensures ∙ sym (list-of-accepted s _ _ _ _ (a .accepted) ∙ rw (← (a .peptides), ← (a .regions)))
+    rw (a .peptides, a .regions) at (c .input-cause .ensures) ∙ sym (list-of-accepted s _ _ _ _ (a .accepted))
 
 returns-2 : tie.Need-returns-2
 returns-2 c =

@@ -11,7 +11,7 @@ use Rattle.reader.proofs.Lists.{write-none, write-more}
 use Rattle.bounds.specs.Selections.{boundOf}
 use Rattle.bounds.specs.SelectionLists.{selectionAt, listBounds}
 use Rattle.bounds.proofs.Walking.Steps.{product-fits}
-use Rattle.bounds.proofs.Calls.ListCalls.{selection-ends, selection-part, selection-whole}
+use Rattle.bounds.proofs.Calls.ListLaws.{selection-ends, selection-part, selection-whole}
 use borrow.Author.Needs.{needs}
 use Rattle.bounds.proofs.list.write_bounds.Statement.{statement}
 use Rattle.bounds.proofs.list.write_bounds.Tie as tie
@@ -60,19 +60,19 @@ module _ (c : tie.In-loop Inv-loop μ-loop) where
   whole = args .pre .1 .0 ∙ ap (λ (n : ℕ). args .args .count * n) (sym (c .before .before .peptide-count .ensures))
 
   ends : start + m ≤ length (now (args .args .selections))
-  ends = selection-ends m i (args .args .count) start (now (args .args .selections)) begins (c .loop-test .taken) whole
+  ends = selection-ends m (now (args .args .selections)) i (args .args .count) start whole (c .loop-test .taken) begins
 
   abbrev F : Family
   F = familyOf (now (args .args .file))
 
   part : take (start + m - start) (drop start (now (args .args .selections))) ≡ selectionAt (F .peptides) (now (args .args .selections)) i
   part =
-      selection-part m i (args .args .count) start (now (args .args .selections)) begins (c .loop-test .taken) whole
+      selection-part m (now (args .args .selections)) i start begins
       ∙ ap (λ (n : ℕ). selectionAt n (now (args .args .selections)) i) (c .before .before .peptide-count .ensures)
 
   part-whole : length (take (start + m - start) (drop start (now (args .args .selections)))) ≡ F .peptides
   part-whole =
-      ap length part ∙ selection-whole (F .peptides) i (args .args .count) start (now (args .args .selections)) (c .before .loop .inv .1) (c .loop-test .taken) (args .pre .1 .0)
+      ap length part ∙ selection-whole (F .peptides) (now (args .args .selections)) i (args .args .count) (args .pre .1 .0) (c .loop-test .taken)
 
 add-end : tie.Need-add-end Inv-loop μ-loop
 add-end c = record { fits = omega (arith, ends c, whole c, product-fits (args c .args .count) (m c) (search needs) (search needs)) }
