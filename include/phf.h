@@ -3,9 +3,9 @@
  *
  * A family says, for each of a number of nested or disjoint regions of peptides, that at most z of the region's
  * peptides are false. These calls check such a family, compute its z from p-values, tell how many of a selection of
- * peptides can be false at most, make such a selection from p-values and fold changes, draw that number along a ranking,
- * cut the ranking at a wanted fraction, draw the hybrid of that number and of the Simes bound from p-values, bring a family
- * into its shortest form, and compare two families.
+ * peptides can be false at most, for one selection or for up to 32, make such a selection from p-values and fold changes,
+ * draw that number along a ranking, cut the ranking at a wanted fraction, draw the hybrid of that number and of the Simes
+ * bound from p-values, bring a family into its shortest form, and compare two families.
  *
  * Every function here is proved: for all inputs, well formed or not, it returns and writes what is said below.
  * What the proofs take for granted is the usual contract of C:
@@ -25,6 +25,7 @@
  *     phf_check, phf_regions                                        28 KB
  *     phf_bounds_from_p                                             84 KB
  *     phf_bound                                                     32 KB
+ *     phf_bounds_list                                               32 KB
  *     phf_curve                                                     44 KB
  *     phf_cut                                                       48 KB
  *     phf_hybrid                                                    56 KB
@@ -87,7 +88,7 @@ extern "C" {
  * others may be added: MINOR rises then. PATCH rises when all of these stay as they are.
  */
 #define PHF_VERSION_MAJOR 0
-#define PHF_VERSION_MINOR 14
+#define PHF_VERSION_MINOR 15
 #define PHF_VERSION_PATCH 0
 
 /* The largest sizes: peptides, leaves, regions, and bytes of a family file. */
@@ -129,7 +130,7 @@ enum phf_number {
     PHF_BAD_PATH_NUMBER = 12,
     /* a peptide stands twice in the path; `place` is the first place, counted from 1, whose peptide stands earlier too */
     PHF_PEPTIDE_TWICE = 13,
-    /* the selection is not m bytes, or has a byte over 1 */
+    /* the selection is not m bytes, or the list of selections not count times m bytes, or a byte of either is over 1 */
     PHF_BAD_SELECTION = 14,
     /* b is 0, or a is over b */
     PHF_BAD_FRACTION = 15,
@@ -148,7 +149,11 @@ enum phf_number {
     /* deviation_squared is over 100000000 */
     PHF_BAD_DEVIATION = 22,
     /* level is 0 or over 1000000 */
-    PHF_BAD_LEVEL = 23
+    PHF_BAD_LEVEL = 23,
+    /* there are more than 32 selections */
+    PHF_TOO_MANY_SELECTIONS = 24,
+    /* the tally would pass 4294967295 */
+    PHF_TALLY_TOO_LARGE = 25
 };
 
 /* What phf_same adds to a number of its second file: PHF_OF_SECOND_FILE + PHF_BAD_LAYOUT is 105. */
@@ -213,6 +218,30 @@ typedef struct phf_bounded {
 phf_bounded phf_bound(const uint8_t *file, size_t file_len,
                       const uint8_t *selection, size_t selection_len,
                       uint8_t *taken, size_t taken_len);
+
+/*
+ * The bounds of up to 32 selections for one family, each the one that phf_bound gives for the selection by itself. The file is
+ * checked once. Causes 1 to 10, 14, 16, 24, 25, in this order.
+ *
+ * selections: count times m bytes: the selections, each as in phf_bound, one behind the other.
+ * count:      how many selections there are, 0 to 32.
+ * tally:      what earlier calls were charged, all together; 0 if there were none.
+ * values:     at least `count` numbers; values[i] becomes the bound of the selection that begins at selections[i * m], for i from
+ *             0 to count - 1, and the rest is unchanged. There are no taken bytes.
+ *
+ * `charge` is K, the number of regions, for one selection as for 32, and 0 for none. `tally` is the given one with the charge
+ * added. A declined call is charged 0, and its `tally` is the given one.
+ */
+typedef struct phf_listed {
+    uint16_t number;
+    uint16_t charge;
+    uint32_t tally;
+} phf_listed;
+
+phf_listed phf_bounds_list(const uint8_t *file, size_t file_len,
+                           const uint8_t *selections, size_t selections_len,
+                           uint16_t count, uint32_t tally,
+                           uint16_t *values, size_t values_len);
 
 /*
  * The selection of the peptides whose p-value and log fold change pass a rule, for phf_bound. The answer is the number.

@@ -41,8 +41,8 @@ def causes():
 class Table(unittest.TestCase):
     def test_a_row_for_each_number(self):
         found = causes()
-        self.assertEqual(list(found), [str(number) for number in range(1, 24)])
-        self.assertEqual(len(set(found.values())), 23)
+        self.assertEqual(list(found), [str(number) for number in range(1, 26)])
+        self.assertEqual(len(set(found.values())), 25)
 
 
 class Shown(unittest.TestCase):

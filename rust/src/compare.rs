@@ -98,6 +98,34 @@ pub fn bound(file: &[u8], selection: &[u8], room: usize) -> u16 {
     answer.number
 }
 
+/// The bounds of a list of selections with `room` places for values; the number.
+pub fn bounds_list(file: &[u8], selections: &[u8], count: u16, tally: u32, room: usize) -> u16 {
+    let before = before_u16(room);
+    let mut values = before.clone();
+    let answer = guarded::bounds_list(file, selections, count, tally, &mut values);
+    match reference::bounds_list(file, selections, count, tally, room) {
+        Ok(list) => {
+            let expected = phf::Listed {
+                number: 0,
+                charge: list.charge,
+                tally: list.tally,
+            };
+            assert_eq!(answer, expected);
+            assert_eq!(values, with_front(&list.values, &before));
+        }
+        Err(number) => {
+            let expected = phf::Listed {
+                number,
+                charge: 0,
+                tally,
+            };
+            assert_eq!(answer, expected);
+            assert_eq!(values, before);
+        }
+    }
+    answer.number
+}
+
 /// The curve with so many places for values and marks; the number.
 pub fn curve(file: &[u8], path: &[u16], values_room: usize, marks_room: usize) -> u16 {
     let values_before = before_u16(values_room);

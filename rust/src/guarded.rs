@@ -3,7 +3,7 @@
 
 use crate::buffers::{reading, writing};
 use crate::families::has_empty_leaf;
-use crate::phf::{self, Bounded, Checked, Compared, Curved, Cutting, Part, Reduced};
+use crate::phf::{self, Bounded, Checked, Compared, Curved, Cutting, Listed, Part, Reduced};
 use crate::reference::Rule;
 
 pub fn check(file: &[u8]) -> Checked {
@@ -38,6 +38,31 @@ pub fn bound(file: &[u8], selection: &[u8], taken: &mut [u8]) -> Bounded {
             writing(taken, |taken| phf::bound(file, selection, taken))
         })
     })
+}
+
+pub fn bounds_list(
+    file: &[u8],
+    selections: &[u8],
+    count: u16,
+    tally: u32,
+    values: &mut [u16],
+) -> Listed {
+    reading(file, |file| {
+        reading(selections, |selections| {
+            writing(values, |values| {
+                phf::bounds_list(file, selections, count, tally, values)
+            })
+        })
+    })
+}
+
+/// The bounds of accepted selections, in room just as long as these.
+pub fn list_of(file: &[u8], selections: &[Vec<u8>]) -> Vec<u16> {
+    let count = selections.len();
+    let mut values = vec![9999; count];
+    let answer = bounds_list(file, &selections.concat(), count as u16, 0, &mut values);
+    assert_eq!(answer.number, 0);
+    values
 }
 
 pub fn curve(file: &[u8], path: &[u16], values: &mut [u16], marks: &mut [u8]) -> Curved {

@@ -25,6 +25,14 @@ pub struct Bounded {
 
 #[repr(C)]
 #[derive(Clone, Copy, Debug, PartialEq, Eq)]
+pub struct Listed {
+    pub number: u16,
+    pub charge: u16,
+    pub tally: u32,
+}
+
+#[repr(C)]
+#[derive(Clone, Copy, Debug, PartialEq, Eq)]
 pub struct Curved {
     pub number: u16,
     pub place: u16,
@@ -73,6 +81,16 @@ extern "C" {
         taken: *mut u8,
         taken_len: usize,
     ) -> Bounded;
+    fn phf_bounds_list(
+        file: *const u8,
+        file_len: usize,
+        selections: *const u8,
+        selections_len: usize,
+        count: u16,
+        tally: u32,
+        values: *mut u16,
+        values_len: usize,
+    ) -> Listed;
     fn phf_curve(
         file: *const u8,
         file_len: usize,
@@ -177,6 +195,27 @@ pub fn bound(file: &[u8], selection: &[u8], taken: &mut [u8]) -> Bounded {
             selection.len(),
             taken.as_mut_ptr(),
             taken.len(),
+        )
+    }
+}
+
+pub fn bounds_list(
+    file: &[u8],
+    selections: &[u8],
+    count: u16,
+    tally: u32,
+    values: &mut [u16],
+) -> Listed {
+    unsafe {
+        phf_bounds_list(
+            file.as_ptr(),
+            file.len(),
+            selections.as_ptr(),
+            selections.len(),
+            count,
+            tally,
+            values.as_mut_ptr(),
+            values.len(),
         )
     }
 }

@@ -361,6 +361,54 @@ pub fn bound(file: &[u8], selection: &[u8], room: usize) -> Result<(u16, Vec<u8>
     Ok((value as u16, taken))
 }
 
+/// What a list of selections gives: the bound of each, what the call is charged, and the tally with that.
+#[derive(Clone, Debug, PartialEq, Eq)]
+pub struct List {
+    pub values: Vec<u16>,
+    pub charge: u16,
+    pub tally: u32,
+}
+
+/// Byte p - 1 of a selection is that of peptide p; each selection begins m bytes behind the one before it.
+pub fn bounds_list(
+    file: &[u8],
+    selections: &[u8],
+    count: u16,
+    tally: u32,
+    room: usize,
+) -> Result<List, u16> {
+    let family = check(file)?;
+    let m = family.peptides as usize;
+    let count = count as usize;
+    if selections.len() != count * m || selections.iter().any(|byte| *byte > 1) {
+        return Err(14);
+    }
+    if room < count {
+        return Err(16);
+    }
+    if count > 32 {
+        return Err(24);
+    }
+    let charge = if count > 0 { family.regions.len() } else { 0 };
+    let sum = tally as u64 + charge as u64;
+    if sum > 4_294_967_295 {
+        return Err(25);
+    }
+    let forest = Forest::of(&family);
+    let bound_at = |i: usize| {
+        let mut selected = vec![false; m + 1];
+        for p in 1..=m {
+            selected[p] = selections[i * m + p - 1] == 1;
+        }
+        forest.bound(&selected).0 as u16
+    };
+    Ok(List {
+        values: (0..count).map(bound_at).collect(),
+        charge: charge as u16,
+        tally: sum as u32,
+    })
+}
+
 /// The T + 1 values and the T marks.
 pub fn curve(
     file: &[u8],

@@ -114,8 +114,8 @@ pub struct Call<'a> {
     pub make: Box<dyn FnMut() -> u16 + 'a>,
 }
 
-/// Every call of the library with one family and one path; everything is selected, the p-values rise from 0, and the choices are
-/// of 4,096 rows.
+/// Every call of the library with one family and one path; everything is selected, in each of 32 selections, the p-values rise from
+/// 0, and the choices are of 4,096 rows.
 pub fn every_call<'a>(file: &'a [u8], path: &'a [u16]) -> Vec<Call<'a>> {
     let m = usize::from(u16::from_le_bytes([file[4], file[5]]));
     let (mut values, mut marks) = (vec![0; 4097], vec![0; 4096]);
@@ -139,6 +139,12 @@ pub fn every_call<'a>(file: &'a [u8], path: &'a [u16]) -> Vec<Call<'a>> {
         "phf_bound",
         32,
         Box::new(move || phf::bound(file, &selection, &mut taken).number),
+    );
+    let (selections, mut bounds) = (vec![1; 32 * m], vec![0; 32]);
+    add(
+        "phf_bounds_list",
+        32,
+        Box::new(move || phf::bounds_list(file, &selections, 32, 0, &mut bounds).number),
     );
     add(
         "phf_curve",

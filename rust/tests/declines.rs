@@ -211,6 +211,12 @@ fn cause_14_selection() {
     assert_eq!(compare::bound(&eight, &[255; 8], 5), 14);
     // before a short output
     assert_eq!(compare::bound(&eight, &[1; 7], 4), 14);
+    assert_eq!(compare::bounds_list(&eight, &[1; 16], 2, 0, 2), 0);
+    assert_eq!(compare::bounds_list(&eight, &[1; 15], 2, 0, 2), 14);
+    assert_eq!(compare::bounds_list(&eight, &[1; 17], 2, 0, 2), 14);
+    assert_eq!(compare::bounds_list(&eight, &[2; 16], 2, 0, 2), 14);
+    assert_eq!(compare::bounds_list(&eight, &[], 0, 0, 0), 0);
+    assert_eq!(compare::bounds_list(&eight, &[1; 8], 0, 0, 0), 14);
 }
 
 #[test]
@@ -238,6 +244,8 @@ fn cause_16_outputs() {
     assert_eq!(compare::bound(&eight, &[1; 8], 5), 0);
     assert_eq!(compare::bound(&eight, &[1; 8], 4), 16);
     assert_eq!(compare::bound(&file(&[3], &[]), &[1; 3], 0), 0);
+    assert_eq!(compare::bounds_list(&eight, &[1; 24], 3, 0, 3), 0);
+    assert_eq!(compare::bounds_list(&eight, &[1; 24], 3, 0, 2), 16);
     assert_eq!(compare::reduce(&eight, eight.len()), 0);
     assert_eq!(compare::reduce(&eight, eight.len() - 1), 16);
     // the reduced file would fit
@@ -254,6 +262,21 @@ fn cause_16_outputs() {
     assert_eq!(compare::hybrid(&loose, &[3, 1], &p_values, 50_000, 2), 16);
     assert_eq!(compare::hybrid(&loose, &[], &p_values, 50_000, 1), 0);
     assert_eq!(compare::hybrid(&loose, &[], &p_values, 50_000, 0), 16);
+}
+
+#[test]
+fn causes_24_and_25_list() {
+    let eight = file_of(&eight_peptides());
+    let told = |count: u16, tally: u32| {
+        let selections = vec![1; 8 * count as usize];
+        compare::bounds_list(&eight, &selections, count, tally, count as usize)
+    };
+    assert_eq!(told(32, 0), 0);
+    assert_eq!(told(33, 0), 24);
+    // five regions
+    assert_eq!(told(32, 4_294_967_290), 0);
+    assert_eq!(told(32, 4_294_967_291), 25);
+    assert_eq!(told(33, 4_294_967_291), 24);
 }
 
 #[test]
@@ -310,6 +333,7 @@ fn damaged_files() {
         note(&seen, compare::cut(&file, &path, 1, 3));
         let selection = random.selection(m, 1, 2);
         note(&seen, compare::bound(&file, &selection, 300));
+        note(&seen, compare::bounds_list(&file, &selection, 1, 0, 1));
         note(&seen, compare::reduce(&file, 2000));
         let p_values = random.p_values(m, 1, 2);
         note(
@@ -330,7 +354,7 @@ fn damaged_files() {
     }
 }
 
-/// Whole files with bad paths, selections, fractions, p-values, levels and outputs, also several at once.
+/// Whole files with bad paths, selections, lists of them, fractions, p-values, levels, tallies and outputs, also several at once.
 #[test]
 fn damaged_inputs() {
     let seen = Seen::default();
@@ -372,6 +396,14 @@ fn damaged_inputs() {
         }
         let room = (k + 1).saturating_sub(random.below(3));
         note(&seen, compare::bound(&file, &selection, room));
+        let count = random.between(1, 34);
+        let list = selection.repeat(count);
+        let tally = u32::MAX - random.between(0, 2 * k) as u32;
+        let room = (count + 1).saturating_sub(random.below(3));
+        note(
+            &seen,
+            compare::bounds_list(&file, &list, count as u16, tally, room),
+        );
         let room = (file.len() + 1).saturating_sub(random.below(3));
         note(&seen, compare::reduce(&file, room));
         let mut p_values = random.p_values(m, 1, 2);
@@ -397,7 +429,7 @@ fn damaged_inputs() {
             compare::hybrid(&file, &path, &p_values, level, values),
         );
     });
-    for number in [0, 11, 12, 13, 14, 15, 16, 20, 21, 22, 23] {
+    for number in [0, 11, 12, 13, 14, 15, 16, 20, 21, 22, 23, 24, 25] {
         let times = seen.borrow().get(&number).copied().unwrap_or(0);
         assert!(times >= 20, "number {number} was seen {times} times");
     }
@@ -415,6 +447,7 @@ fn random_bytes() {
         compare::check(&file);
         compare::curve(&file, &[1, 2], 3, 2);
         compare::bound(&file, &[1, 0, 1], 9);
+        compare::bounds_list(&file, &[1, 0, 1], 3, 0, 3);
         compare::bounds_from_p(&file, &[5, 0, 1_000_000], DEVIATION_SQUARED, 130);
         compare::hybrid(&file, &[1, 2], &[5, 0, 1_000_000], 50_000, 3);
     });

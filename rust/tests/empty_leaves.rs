@@ -34,6 +34,8 @@ fn all_calls(file: &[u8]) {
     let path: Vec<u16> = (1..=m as u16).rev().collect();
     assert_eq!(compare::check(file), 0);
     assert_eq!(compare::bound(file, &vec![1; m], k), 0);
+    let list = [vec![1; m], vec![0; m], vec![1; m]].concat();
+    assert_eq!(compare::bounds_list(file, &list, 3, 0, 3), 0);
     assert_eq!(compare::curve(file, &path, m + 1, m), 0);
     assert_eq!(compare::cut(file, &path, 1, 2), 0);
     assert_eq!(compare::reduce(file, file.len()), 0);

@@ -3,7 +3,7 @@
 //! here was copied from these two texts.
 
 use phf_tests::families::{eight_peptides, file, EIGHT_P_VALUES};
-use phf_tests::guarded::{self, curve_of, hybrid_of, reduced};
+use phf_tests::guarded::{self, curve_of, hybrid_of, list_of, reduced};
 use phf_tests::reference::file_of;
 
 fn hexadecimal(text: &str) -> Vec<u8> {
@@ -24,6 +24,21 @@ fn e1_the_curve() {
     let (values, marks) = curve_of(&file_of(&eight_peptides()), &EIGHT_PATH);
     assert_eq!(values, [0, 0, 1, 2, 2, 3, 4, 4, 4]);
     assert_eq!(marks, [0, 1, 1, 0, 1, 1, 0, 0]);
+}
+
+/// Entry t is the bound of the first t peptides of the path.
+#[test]
+fn e1_as_a_list() {
+    let first = |t: usize| {
+        let mut selection = vec![0; 8];
+        for p in &EIGHT_PATH[..t] {
+            selection[*p as usize - 1] = 1;
+        }
+        selection
+    };
+    let selections: Vec<Vec<u8>> = (0..=8).map(first).collect();
+    let values = list_of(&file_of(&eight_peptides()), &selections);
+    assert_eq!(values, [0, 0, 1, 2, 2, 3, 4, 4, 4]);
 }
 
 #[test]

@@ -17,6 +17,13 @@ fn all_calls(random: &mut Random, family: &Family) {
     let part = random.between(1, 9);
     let selection = random.selection(m, part, 10);
     assert_eq!(compare::bound(&file, &selection, k + random.below(3)), 0);
+    let count = random.between(0, 32);
+    let list = random.selection(count * m, part, 10);
+    let room = count + random.below(3);
+    assert_eq!(
+        compare::bounds_list(&file, &list, count as u16, 77, room),
+        0
+    );
     let mut path = random.order(m);
     if random.chance(1, 2) {
         path.truncate(random.between(0, m));

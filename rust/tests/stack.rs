@@ -58,7 +58,7 @@ fn on_its_stack(name: &str, mut call: impl FnMut() -> u16) -> u16 {
     Stack::new(stated).run(&mut call)
 }
 
-/// Declined calls need no more, here by the causes that are found last: 10 and, of a comparison, 110; 13; 14, 15 and 16; 20 to 23.
+/// Declined calls need no more, here by the causes that are found last: 10 and, of a comparison, 110; 13; 14, 15 and 16; 20 to 25.
 #[test]
 fn declined_calls_on_the_same_stack() {
     let good = file_of(&deepest_tree(&mut Random::new(11), Bounds::Mixed));
@@ -83,6 +83,25 @@ fn declined_calls_on_the_same_stack() {
         phf::bound(&good, &selection, &mut taken[1..]).number
     });
     assert_eq!(number, 16);
+    let mut selections = vec![1; 33 * 4096];
+    selections[32 * 4096] = 2;
+    for (file, count, tally, room, expected) in [
+        (&deep, 32, 0, 32, 10),
+        (&good, 33, 0, 33, 14),
+        (&good, 32, 0, 31, 16),
+        (&good, 32, u32::MAX, 32, 25),
+    ] {
+        let list = &selections[..count * 4096];
+        let number = on_its_stack("phf_bounds_list", || {
+            phf::bounds_list(file, list, count as u16, tally, &mut values[..room]).number
+        });
+        assert_eq!(number, expected);
+    }
+    selections[32 * 4096] = 1;
+    let number = on_its_stack("phf_bounds_list", || {
+        phf::bounds_list(&good, &selections, 33, 0, &mut values).number
+    });
+    assert_eq!(number, 24);
     for (path, room, expected) in [(&repeats, 4096, 13), (&path, 4095, 16)] {
         let number = on_its_stack("phf_curve", || {
             phf::curve(&good, path, &mut values, &mut marks[..room]).number
@@ -136,7 +155,7 @@ fn the_header_states_what_the_calls_use() {
     let header = include_str!("../../include/phf.h");
     let (_, table) = header.split_once(" * STACK.").unwrap();
     let (table, _) = table.split_once("\n *\n").unwrap();
-    let mut most = [0; 12];
+    let mut most = [0; 13];
     for family in families() {
         let path = Random::new(10).order(family.peptides as usize);
         let file = file_of(&family);

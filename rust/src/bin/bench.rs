@@ -25,15 +25,19 @@ struct Input {
     selection: Vec<u8>,
 }
 
+/// So many half-full selections, one behind the other. The first ones are the same for every number of them.
+fn half_full(family: &Family, count: usize) -> Vec<u8> {
+    let m = family.peptides as usize;
+    Random::new(7).selection(count * m, 1, 2)
+}
+
 impl Input {
     fn new(name: &str, family: &Family, path: Vec<u16>) -> Input {
-        let m = family.peptides as usize;
-        let selection = Random::new(7).selection(m, 1, 2);
         Input {
             name: name.to_string(),
             file: file_of(family),
             path,
-            selection,
+            selection: half_full(family, 1),
         }
     }
 
@@ -213,12 +217,16 @@ fn both(pair: &Pair, input: &Input) -> (f64, f64) {
     (found[0], found[1])
 }
 
+/// The family of the source's experiment, and one with the most leaves and regions.
+fn source_and_largest(random: &mut Random) -> [Family; 2] {
+    [(512, 8), (4096, 1)].map(|(n, length)| binary_tree(random, n, length, Bounds::Mixed))
+}
+
 fn inputs() -> Vec<Input> {
     let random = &mut Random::new(1);
     let down: Vec<u16> = (1..=4096).rev().collect();
     let up: Vec<u16> = (1..=4096).collect();
-    let source = binary_tree(random, 512, 8, Bounds::Mixed);
-    let largest = binary_tree(random, 4096, 1, Bounds::Mixed);
+    let [source, largest] = source_and_largest(random);
     let mut loose = towers(random, 4096, 64, Bounds::Mixed);
     for region in &mut loose.regions {
         region.z = 65535;
@@ -275,6 +283,112 @@ fn calls_table() -> bool {
         }
     }
     all_met
+}
+
+/// A list of selections for one family. The first is that of the rows of `bound`.
+struct List {
+    name: &'static str,
+    peptides: usize,
+    regions: usize,
+    file: Vec<u8>,
+    selections: Vec<u8>,
+    count: u16,
+}
+
+impl List {
+    fn new(name: &'static str, family: &Family, count: u16) -> List {
+        List {
+            name,
+            peptides: family.peptides as usize,
+            regions: family.regions.len(),
+            file: file_of(family),
+            selections: half_full(family, count as usize),
+            count,
+        }
+    }
+
+    fn library(&self, values: &mut [u16]) -> phf::Listed {
+        phf::bounds_list(&self.file, &self.selections, self.count, 0, values)
+    }
+
+    fn rust(&self, values: &mut [u16]) -> phf::Listed {
+        fast::bounds_list(&self.file, &self.selections, self.count, 0, values)
+    }
+
+    /// Each selection by a call of its own.
+    fn one_by_one(&self, values: &mut [u16], taken: &mut [u8]) {
+        let selections = self.selections.chunks_exact(self.peptides);
+        for (selection, value) in selections.zip(values) {
+            *value = phf::bound(&self.file, selection, taken).bound;
+        }
+    }
+
+    /// All three write the same, and leave what lies beyond.
+    fn agree(&self) {
+        let mut rooms = [vec![9999; 50], vec![9999; 50], vec![9999; 50]];
+        let [one, two, three] = &mut rooms;
+        let answer = self.library(one);
+        assert_eq!((answer.number, answer.charge as usize), (0, self.regions));
+        assert_eq!(answer, self.rust(two));
+        self.one_by_one(three, &mut [0; 8191]);
+        assert!(rooms.iter().all(|room| *room == rooms[0]));
+    }
+
+    /// Nanoseconds of the library, of the Rust twin, and of calls for each selection.
+    fn times(&self) -> [f64; 3] {
+        self.agree();
+        let mut rooms = [Room::new(), Room::new(), Room::new()];
+        let [one, two, three] = &mut rooms;
+        let found = measure(&mut [
+            &mut || {
+                black_box(black_box(self).library(&mut one.values));
+            },
+            &mut || {
+                black_box(black_box(self).rust(&mut two.values));
+            },
+            &mut || black_box(self).one_by_one(&mut three.values, &mut three.bytes),
+        ]);
+        [found[0], found[1], found[2]]
+    }
+}
+
+/// Whether no row is over 1.5 times the Rust one; and whether, of the rows with 32 selections of 4,096 peptides, none is over 1.2
+/// times the Rust one, and none over 0.9 of the calls for each selection.
+fn lists_table() -> (bool, bool, bool) {
+    println!("| family | m | K | selections | library µs | Rust µs | ratio | `bound` for each µs | of `bound` for each |");
+    println!("|---|---|---|---|---|---|---|---|---|");
+    let [source, largest] = source_and_largest(&mut Random::new(1));
+    let course = eight_peptides();
+    let (mut all_met, mut all_near, mut all_shorter) = (true, true, true);
+    for (name, family) in [("course", course), ("source", source), ("largest", largest)] {
+        for count in [1, 8, 32] {
+            let list = List::new(name, &family, count);
+            let [library, rust, each] = list.times();
+            let (ratio, part) = (library / rust, library / each);
+            let judged = count == 32 && list.peptides == 4096;
+            let most = if judged { 1.2 } else { 1.5 };
+            let shorter = part <= 0.9 || !judged;
+            all_met &= ratio <= 1.5;
+            all_near &= ratio <= 1.2 || !judged;
+            all_shorter &= shorter;
+            println!(
+                "| {} | {} | {} | {count} | {} | {} | {ratio:.2}{} | {} | {part:.2}{} |",
+                list.name,
+                list.peptides,
+                list.regions,
+                micro(library),
+                micro(rust),
+                if ratio <= most {
+                    String::new()
+                } else {
+                    format!(" over {most}")
+                },
+                micro(each),
+                if shorter { "" } else { " over 0.9" }
+            );
+        }
+    }
+    (all_met, all_near, all_shorter)
 }
 
 /// The binary tree of the source's experiment, with z as in its scenarios 1 and 3, the size of the region, or mixed.
@@ -684,8 +798,7 @@ impl FromP {
 
 fn from_p_inputs() -> Vec<FromP> {
     let random = &mut Random::new(10);
-    let source = binary_tree(random, 512, 8, Bounds::Mixed);
-    let largest = binary_tree(random, 4096, 1, Bounds::Mixed);
+    let [source, largest] = source_and_largest(random);
     let any = random.p_values(4096, 0, 1);
     let half_small = random.p_values(4096, 1, 2);
     // 21 different ones
@@ -1014,6 +1127,8 @@ fn stack_table() {
 fn main() {
     println!("### Calls\n");
     let calls_met = calls_table();
+    println!("\n### Lists of selections\n");
+    let (lists_met, near, shorter) = lists_table();
     println!("\n### Selections\n");
     let selections_met = selections_table();
     println!("\n### Bounds from p-values\n");
@@ -1022,7 +1137,7 @@ fn main() {
     from_p_growth_table();
     println!("\n### Hybrid curves\n");
     let (hybrid_met, within) = hybrid_table();
-    let met = hybrid_met && from_p_met && selections_met && calls_met;
+    let met = hybrid_met && from_p_met && selections_met && lists_met && calls_met;
     println!();
     hybrid_growth_table();
     println!("\n### The walk\n");
@@ -1036,8 +1151,9 @@ fn main() {
     println!("\n### Stack\n");
     stack_table();
     println!(
-        "\nNo call over 1.5 times the Rust one: {met}. The Simes part takes no longer than the curve with 4,096 leaves and steps: \
-         {within}. Worst check: {} µs.",
+        "\nNo call over 1.5 times the Rust one: {met}. 32 selections of 4,096 peptides at most 1.2 times the Rust list: {near}, and \
+         at most 0.9 of 32 calls: {shorter}. The Simes part takes no longer than the curve with 4,096 leaves and steps: {within}. \
+         Worst check: {} µs.",
         micro(worst)
     );
 }

@@ -1,7 +1,7 @@
 /*
  * The eight-peptide family from C: every call, what it writes, and every number by its name. The expected values are those
- * of the scope document. Then a family with leaves without a peptide, peptides chosen by their rows, bounds from p-values and
- * hybrid curves, whose values are derived beside them.
+ * of the scope document. Then lists of selections, a family with leaves without a peptide, peptides chosen by their rows, bounds
+ * from p-values and hybrid curves, whose values are derived beside them.
  * Compiled as C99 and as C++11. Prints `ok`, or the first line that does not hold.
  */
 #include <math.h>
@@ -57,6 +57,79 @@ static void bound(void)
     answer = phf_bound(eight, sizeof eight, all, 8, taken, 6);
     HOLDS(answer.number == 0 && answer.bound == 4);
     HOLDS(memcmp(taken, expected, 6) == 0);
+}
+
+/*
+ * Of 1 and 2 both can be false, of 3 to 5 one, 6 can be, 7 and 8 cannot: the bounds of all, of none, of 3 to 5, of 1, 6 and 7,
+ * and of 7 and 8. There are 5 regions.
+ */
+static const uint8_t five_selections[40] = {
+    1, 1, 1, 1, 1, 1, 1, 1,
+    0, 0, 0, 0, 0, 0, 0, 0,
+    0, 0, 1, 1, 1, 0, 0, 0,
+    1, 0, 0, 0, 0, 1, 1, 0,
+    0, 0, 0, 0, 0, 0, 1, 1};
+
+static void list(void)
+{
+    const uint16_t expected[6] = {4, 0, 1, 2, 0, 777};
+    uint16_t values[6] = {777, 777, 777, 777, 777, 777};
+    phf_listed answer;
+    HOLDS(sizeof(phf_listed) == 8);
+    HOLDS(offsetof(phf_listed, number) == 0 && offsetof(phf_listed, charge) == 2 && offsetof(phf_listed, tally) == 4);
+    answer = phf_bounds_list(eight, sizeof eight, NULL, 0, 0, UINT32_C(4294967295), NULL, 0);
+    HOLDS(answer.number == PHF_DONE && answer.charge == 0 && answer.tally == UINT32_C(4294967295));
+    answer = phf_bounds_list(eight, sizeof eight, five_selections, 40, 5, 70000, values, 6);
+    HOLDS(answer.number == PHF_DONE && answer.charge == 5 && answer.tally == 70005);
+    HOLDS(memcmp(values, expected, sizeof values) == 0);
+    answer = phf_bounds_list(eight, sizeof eight, five_selections + 16, 8, 1, answer.tally, values, 1);
+    HOLDS(answer.number == PHF_DONE && answer.charge == 5 && answer.tally == 70010);
+    HOLDS(values[0] == 1 && memcmp(values + 1, expected + 1, 5 * sizeof expected[0]) == 0);
+    answer = phf_bounds_list(eight, sizeof eight, five_selections, 40, 5, UINT32_C(4294967290), values, 5);
+    HOLDS(answer.number == PHF_DONE && answer.charge == 5 && answer.tally == UINT32_C(4294967295));
+}
+
+static uint16_t list_number(size_t file_len, size_t selections_len, uint16_t count, uint32_t tally, size_t room)
+{
+    uint8_t selections[8 * 33 + 1];
+    uint16_t values[33];
+    phf_listed answer;
+    int i;
+    for (i = 0; i < 33; i++)
+        values[i] = 777;
+    memset(selections, 1, sizeof selections);
+    /* the first byte of the thirty-second selection */
+    selections[8 * 31] = 2;
+    answer = phf_bounds_list(eight, file_len, selections, selections_len, count, tally, values, room);
+    for (i = 0; i < 33; i++)
+        HOLDS(values[i] == 777);
+    HOLDS(answer.charge == 0 && answer.tally == tally);
+    return answer.number;
+}
+
+static void list_declines(void)
+{
+    uint8_t none[8 * 33];
+    uint16_t values[33];
+    phf_listed answer;
+    memset(none, 0, sizeof none);
+    values[0] = 777;
+    HOLDS(phf_bounds_list(NULL, 0, NULL, 0, 33, 7, NULL, 0).number == PHF_NOT_A_FAMILY_FILE);
+    HOLDS(list_number(53, 8 * 32, 32, UINT32_C(4294967295), 31) == PHF_BAD_LAYOUT);
+    HOLDS(list_number(54, 8 * 32, 32, UINT32_C(4294967295), 31) == PHF_BAD_SELECTION);
+    HOLDS(list_number(54, 8 * 31 - 1, 31, UINT32_C(4294967295), 30) == PHF_BAD_SELECTION);
+    HOLDS(list_number(54, 8, 0, 0, 0) == PHF_BAD_SELECTION);
+    HOLDS(list_number(54, 8 * 31, 31, UINT32_C(4294967291), 30) == PHF_SHORT_OUTPUT);
+    HOLDS(list_number(54, 8 * 31, 31, UINT32_C(4294967291), 31) == PHF_TALLY_TOO_LARGE);
+    HOLDS(list_number(54, 8, 1, UINT32_C(4294967295), 33) == PHF_TALLY_TOO_LARGE);
+    answer = phf_bounds_list(eight, sizeof eight, none, sizeof none, 33, UINT32_C(4294967291), values, 32);
+    HOLDS(answer.number == PHF_SHORT_OUTPUT && answer.charge == 0 && answer.tally == UINT32_C(4294967291));
+    answer = phf_bounds_list(eight, sizeof eight, none, sizeof none, 33, UINT32_C(4294967291), values, 33);
+    HOLDS(answer.number == PHF_TOO_MANY_SELECTIONS && answer.charge == 0 && answer.tally == UINT32_C(4294967291));
+    HOLDS(values[0] == 777);
+    answer = phf_bounds_list(eight, sizeof eight, none, 8 * 32, 32, UINT32_C(4294967290), values, 32);
+    HOLDS(answer.number == PHF_DONE && answer.charge == 5 && answer.tally == UINT32_C(4294967295));
+    HOLDS(values[0] == 0 && values[31] == 0);
 }
 
 static void curve_and_cut(void)
@@ -472,6 +545,8 @@ int main(void)
 {
     check_and_regions();
     bound();
+    list();
+    list_declines();
     curve_and_cut();
     reduce_and_same();
     check_and_bound_unmeasured();
