@@ -11,21 +11,20 @@ ghost use Rattle.reader.specs.Causes.{firstCause};
 ghost use Rattle.bounds.specs.Selections.{selected, cause14};
 ghost use Rattle.bounds.specs.Calls.{causesWithRoom};
 
-// Not that many bytes, or a byte over 1.
+// Not that many bytes, or a byte over 1. The loop is not left early, so that the compiler can judge several bytes at once.
 pub(crate) fn bad_selection(selection: &[u8], whole: usize) -> bool
     ensures { λ r. ⌜ r ≡ cause14 whole (now (selection .entry)) ⌝ }
 {
     if selection.len() != whole {
         return true;
     }
+    let mut over = false;
     let mut i = 0;
     while i < selection.len() {
-        if 1 < selection[i] {
-            return true;
-        }
+        over |= 1 < selection[i];
         i += 1;
     }
-    false
+    over
 }
 
 // 1 if the peptide after the one named is selected, else 0.

@@ -1,14 +1,15 @@
 -- Cause 14: what it says of the bytes of a selection.
-use Prim.Native.Nat.{ℕ, _<_}
-use mathlib.Core.Bool.{Bool, true, false, not}
+use Prim.Native.Nat.{ℕ, _+_, _<_}
+use mathlib.Core.Bool.{Bool, true, false, not, _||_}
 use mathlib.Core.List.{List}
-use mathlib.Core.Path.{_≡_}
+use mathlib.Core.Path.{_≡_, _∙_}
+use native.Mathlib.Numerals.{add-one}
 use lib.ListN.{length, getD}
 use lib.Dec.{eqb, ltb}
-use borrow.Author.Tests.{eq-eqb, ne-eqb, eqb-true, lt-ltb, not-false}
+use borrow.Author.Tests.{eq-eqb, ne-eqb, eqb-true, not-false}
 use Rattle.reader.specs.Lists.{someBelow}
-use Rattle.reader.proofs.Bools.{or-r, or-fails-l, or-fails-r}
-use Rattle.reader.proofs.Below.{some-at, none-at}
+use Rattle.reader.proofs.Bools.{or-fails-l, or-fails-r}
+use Rattle.reader.proofs.Below.{none-at}
 use Rattle.bounds.specs.Selections.{cause14}
 
 -- Cause 14.
@@ -17,20 +18,22 @@ use Rattle.bounds.specs.Selections.{cause14}
 abbrev pub overOne : List ℕ → ℕ → Bool
 overOne selection i = ltb 1 (getD selection i 0)
 
+-- of the first n bytes and one more
+pub over-more : (selection : List ℕ) (n : ℕ) → someBelow n (overOne selection) || overOne selection n ≡ someBelow (n + 1) (overOne selection)
+unfolding someBelow
+over-more selection n = rw (add-one n)
+
 module _ (m : ℕ) (selection : List ℕ) where
   pub wrong-length : (length selection ≡ m → ⊥) → cause14 m selection ≡ true
   unfolding cause14
   wrong-length h = rw (ne-eqb (length selection) m h)
 
-  pub wrong-byte : (i : ℕ) → i < length selection → 1 < getD selection i 0 → cause14 m selection ≡ true
+  pub by-bytes : length selection ≡ m → cause14 m selection ≡ someBelow (length selection) (overOne selection)
   unfolding cause14
-  wrong-byte i l h =
-      or-r (not (eqb (length selection) m)) (someBelow (length selection) (overOne selection))
-      (some-at (overOne selection) (length selection) i l (lt-ltb 1 (getD selection i 0) h))
+  by-bytes e = rw (eq-eqb (length selection) m e)
 
   pub right-selection : length selection ≡ m → someBelow (length selection) (overOne selection) ≡ false → cause14 m selection ≡ false
-  unfolding cause14
-  right-selection e h = rw (eq-eqb (length selection) m e) h
+  right-selection e h = by-bytes e ∙ h
 
   -- where it does not hold, the selection has m bytes
   pub right-length : cause14 m selection ≡ false → length selection ≡ m
