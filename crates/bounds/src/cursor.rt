@@ -2,12 +2,14 @@
 use crate::selection::selected_between;
 use reader::family::Leaf;
 use reader::family::Peptide;
+use reader::family::Region;
 use reader::family::leaf_length;
 use reader::family::region_count;
 use reader::family::region_of;
 ghost use mathlib.Core.Path.{_≡_};
 ghost use Prim.Native.Nat.{_-_, _<_, _≤_};
 ghost use Rattle.reader.specs.Family.{familyOf, leaves, regionCount, region, peptidesUpTo};
+ghost use Rattle.reader.specs.Calls.{held};
 ghost use Rattle.bounds.specs.Private.Rows.{beginsBy, Ready, OnLeaf, PassedTo};
 
 // Where a walk along the line stands: the next region, and the last leaf and the last peptide passed, 0 before the first.
@@ -75,16 +77,15 @@ pub(crate) fn begins_by(file: &[u8], k: u16, last: Leaf) -> bool
     }
 }
 
-// Goes on to the next region, and counts the selected peptides before it.
-pub(crate) fn pass_to_region(file: &[u8], selection: &[u8], from: Cursor) -> Counted
+// Goes on to the next region, whose record is given, and counts the selected peptides before it.
+pub(crate) fn pass_to_region(file: &[u8], selection: &[u8], from: Cursor, next: Region) -> Counted
     requires { ⌜ Ready (familyOf (now file)) (now selection) ⌝ }
     requires { ⌜ OnLeaf (familyOf (now file)) from ⌝ }
     requires { ⌜ (from .region < regionCount (familyOf (now file))) × (from .leaf .0 < region (familyOf (now file)) (from .region) .first) ⌝ }
+    requires { ⌜ held next ≡ region (familyOf (now file)) (from .region) ⌝ }
     ensures { λ r. ⌜ PassedTo (familyOf (now (file .entry))) (now (selection .entry)) from (region (familyOf (now (file .entry))) (from .region) .first - 1) r ⌝ }
 {
-    let k = from.region;
-    let r = region_of(file, k);
-    let first = r.first.0;
+    let first = next.first.0;
     let last = first - 1;
     pass(file, selection, from, Leaf(last))
 }

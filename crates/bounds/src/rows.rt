@@ -9,24 +9,33 @@ use crate::cursor::pass_to_region;
 use reader::bytes::smaller;
 use reader::family::Leaf;
 use reader::family::Peptide;
+use reader::family::Region;
 use reader::family::leaf_count;
 use reader::family::region_of;
 ghost use Prim.Native.Nat.{_≤_};
 ghost use lib.ListN.{length};
-ghost use Rattle.reader.specs.Family.{familyOf, regionCount};
+ghost use mathlib.Core.Path.{_≡_};
+ghost use Rattle.reader.specs.Family.{familyOf, regionCount, region};
+ghost use Rattle.reader.specs.Calls.{held};
 ghost use Rattle.bounds.specs.Private.Rows.{Ready, RegionReady, RowReady, RegionWalked, RowWalked, LineWalked};
 
-// The value of the region at the cursor: the smaller of its z and its inside total, which is stored.
-fn region_value(file: &[u8], selection: &[u8], totals: &mut [u16], from: Cursor) -> Counted
+// The value of the region at the cursor, whose record is given: the smaller of its z and its inside total, which is stored.
+fn region_value(
+    file: &[u8],
+    selection: &[u8],
+    totals: &mut [u16],
+    from: Cursor,
+    this: Region,
+) -> Counted
     requires { ⌜ RegionReady (familyOf (now file)) (now selection) (now totals) from ⌝ }
+    requires { ⌜ held this ≡ region (familyOf (now file)) (from .region) ⌝ }
     ensures { λ r. ⌜ RegionWalked (familyOf (now (file .entry))) (now (selection .entry)) (now (totals .entry)) (now (totals .exit)) from r ⌝ }
 {
     let k = from.region;
     let leaf = from.leaf;
     let peptide = from.peptide;
-    let r = region_of(file, k);
-    let z = r.z;
-    let last = r.last;
+    let z = this.z;
+    let last = this.last;
     let region = k + 1;
     let start = Cursor {
         region,
@@ -52,14 +61,14 @@ fn row_value(file: &[u8], selection: &[u8], totals: &mut [u16], last: Leaf, from
     let mut total = 0;
     let mut at = from;
     while begins_by(file, at.region, last) {
-        let before = pass_to_region(file, selection, at);
+        let next = region_of(file, at.region);
+        let before = pass_to_region(file, selection, at, next);
         let free = before.count;
         let start = before.at;
-        let inner = region_value(file, selection, totals, start);
+        let inner = region_value(file, selection, totals, start, next);
         let value = inner.count;
-        let next = inner.at;
         total = total + free + value;
-        at = next;
+        at = inner.at;
     }
     let rest = pass(file, selection, at, last);
     let free = rest.count;

@@ -10,25 +10,23 @@ use borrow.Author.Needs.{needs}
 use Rattle.bounds.proofs.cursor.pass_to_region.Statement.{statement}
 use Rattle.bounds.proofs.cursor.pass_to_region.Tie as tie
 
-first-read : (c : tie.After-region-of) → c .region-of .result .first .0 ≡ region (familyOf (now (c .before .before .before .args .file))) (c .before .before .before .args .from .region) .first
-first-read c = held-first _ _ (c .region-of .ensures)
-
-region-of-requires : tie.Need-region-of-requires
-region-of-requires c κs = search needs
+first-read : (c : tie.Start) → c .args .next .first .0 ≡ region (familyOf (now (c .args .file))) (c .args .from .region) .first
+first-read c = held-first _ _ (c .pre .1 .1 .1)
 
 sub-last : tie.Need-sub-last
-sub-last c = omega (arith, first-read c, c .before .before .before .pre .1 .1 .1)
+sub-last c = omega (arith, first-read (c .before .before), c .before .before .pre .1 .1 .0 .1)
 
 pass-requires : tie.Need-pass-requires
 pass-requires c κs =
-    let pre = c .before .before .before .pre in
+    let pre = c .before .before .pre in
     let o = pre .0 .formed .ordered in
-    let k = c .before .before .before .args .from .region in
-    let e = first-read c in
-    (pre .0, (pre .1 .0, (omega (arith, e, pre .1 .1 .1), omega (arith, e, o .first-last k (pre .1 .1 .0), o .last-leaf k (pre .1 .1 .0)))))
+    let k = c .before .before .args .from .region in
+    let e = first-read (c .before .before) in
+    let next = pre .1 .1 .0 in
+    (pre .0, (pre .1 .0, (omega (arith, e, next .1), omega (arith, e, o .first-last k (next .0), o .last-leaf k (next .0)))))
 
 returns : tie.Need-returns
-returns c = passed-to (ap (λ (n : ℕ). n - 1) (first-read (c .before))) (c .pass .ensures)
+returns c = passed-to (ap (λ (n : ℕ). n - 1) (first-read (c .before .before .before))) (c .pass .ensures)
 
 pub pass-to-region-spec : {M : Type 1} → statement M
-pass-to-region-spec = tie.close (tie.spec region-of-requires sub-last pass-requires returns)
+pass-to-region-spec = tie.close (tie.spec sub-last pass-requires returns)

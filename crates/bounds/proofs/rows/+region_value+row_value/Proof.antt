@@ -2,10 +2,10 @@
 -- its own: with n regions left, a region's measure is 2n and a row's 2n + 1.
 use Prim.Native.Nat.{ℕ, _<_, _+_, _-_, _*_}
 use native.Mathlib.Omega.{arith}
-use mathlib.Core.Path.{_≡_, refl, _∙_}
+use mathlib.Core.Path.{_≡_, refl, sym, ap, _∙_}
 use lib.ListN.{length, length-set}
 use denote.Ref.{now}
-use Rattle.reader.specs.Family.{familyOf, regionCount}
+use Rattle.reader.specs.Family.{familyOf, regionCount, region}
 use Rattle.reader.proofs.Parsed.{held-last, held-z}
 use Rattle.reader.proofs.bytes.smaller.Reads as smaller-reads
 use Rattle.reader.proofs.family.region_of.Reads as region-of-reads
@@ -55,12 +55,14 @@ row-value-below t =
 -- what the calls in each of them ask and promise
 abbrev region-value-claims : ℕ → region-value-lts.Claims
 region-value-claims t =
-    (region-of-reads.Asked, region-of-reads.Learnt, row-value-below t, row-value.Post, smaller-reads.Asked, smaller-reads.Learnt)
+    (row-value-below t, row-value.Post, smaller-reads.Asked, smaller-reads.Learnt)
 
 abbrev row-value-claims : ℕ → row-value-lts.Claims
 row-value-claims t = (
   begins-by-reads.Asked,
   begins-by-reads.Learnt,
+  region-of-reads.Asked,
+  region-of-reads.Learnt,
   pass-to-region-reads.Asked,
   pass-to-region-reads.Learnt,
   region-value-below t,
@@ -69,19 +71,16 @@ row-value-claims t = (
   pass-reads.Learnt,
 )
 
-region-value-region-of-requires : (t : ℕ) → region-value-lts.Need-region-of-requires (region-value-claims t) (region-value-at t) region-value.Post
-region-value-region-of-requires t c κs = search needs
-
 region-value-add-region : (t : ℕ) → region-value-lts.Need-add-region (region-value-claims t) (region-value-at t) region-value.Post
 region-value-add-region t c =
-    let pre = c .before .before .before .before .before .before .before .pre .1 in
+    let pre = c .before .before .before .before .before .before .pre .1 .0 in
     let w = pre .ready .formed in
     omega (arith, pre .here, w .regions-most, w .leaves-most, w .peptides-most)
 
 region-value-row-value-requires : (t : ℕ) → region-value-lts.Need-row-value-requires (region-value-claims t) (region-value-at t) region-value.Post
 region-value-row-value-requires t c κs =
-    let pre = c .before .before .before .before .before .before .before .before .pre .1 in
-    (omega (arith, c .before .before .before .before .before .before .before .before .pre .0, pre .here), region-row _ _ _ pre (held-last _ _ (c .before .before .region-of .ensures)))
+    let pre = c .before .before .before .before .before .before .before .pre .1 .0 in
+    (omega (arith, c .before .before .before .before .before .before .before .pre .0, pre .here), region-row _ _ _ pre (held-last _ _ (c .before .before .before .before .before .before .before .pre .1 .1)))
 
 region-value-cast-totals : (t : ℕ) → region-value-lts.Need-cast-totals (region-value-claims t) (region-value-at t) region-value.Post
 region-value-cast-totals t c = search needs
@@ -91,7 +90,7 @@ region-value-mul-totals t c = search needs
 
 region-value-slice-write-totals : (t : ℕ) → region-value-lts.Need-slice-write-totals (region-value-claims t) (region-value-at t) region-value.Post
 region-value-slice-write-totals t c =
-    let pre = c .before .before .before .before .before .before .before .before .before .before .before .before .pre .1 in
+    let pre = c .before .before .before .before .before .before .before .before .before .before .before .pre .1 .0 in
     omega (arith, pre .here, pre .room, c .before .before .before .row-value .kept .1 .1 .0)
 
 region-value-smaller-requires : (t : ℕ) → region-value-lts.Need-smaller-requires (region-value-claims t) (region-value-at t) region-value.Post
@@ -102,8 +101,8 @@ region-value-same-length t c = simp length-set (c .before .before .before .befor
 
 region-value-returns : (t : ℕ) → region-value-lts.Need-returns (region-value-claims t) (region-value-at t) region-value.Post
 region-value-returns t c =
-    let pre = c .before .before .before .before .before .before .before .before .before .before .before .before .before .pre .1 in
-    region-finishes _ _ _ _ _ _ pre (c .before .before .before .before .row-value .kept .1 .1 .0) (held-z _ _ (c .before .before .before .before .before .before .before .region-of .ensures)) (c .smaller .ensures) (c .before .before .before .before .row-value .ensures)
+    let pre = c .before .before .before .before .before .before .before .before .before .before .before .before .pre .1 .0 in
+    region-finishes _ _ _ _ _ _ pre (c .before .before .before .before .row-value .kept .1 .1 .0) (held-z _ _ (c .before .before .before .before .before .before .before .before .before .before .before .before .pre .1 .1)) (c .smaller .ensures) (c .before .before .before .before .row-value .ensures)
 
 abbrev row-value-Inv-loop : row-value-lts.InvT-loop
 row-value-Inv-loop file selection totals₀ last total₀ at₀ totals total at =
@@ -120,22 +119,25 @@ row-value-loop-holds t c = let pre = c .before .before .before .pre .1 in (row-s
 row-value-begins-by-requires : (t : ℕ) → row-value-lts.Need-begins-by-requires (row-value-claims t) (row-value-at t) row-value.Post row-value-Inv-loop row-value-μ-loop
 row-value-begins-by-requires t c κs = search needs
 
+row-value-region-of-requires : (t : ℕ) → row-value-lts.Need-region-of-requires (row-value-claims t) (row-value-at t) row-value.Post row-value-Inv-loop row-value-μ-loop
+row-value-region-of-requires t c κs = search needs
+
 row-value-pass-to-region-requires : (t : ℕ) → row-value-lts.Need-pass-to-region-requires (row-value-claims t) (row-value-at t) row-value.Post row-value-Inv-loop row-value-μ-loop
 row-value-pass-to-region-requires t c κs =
-    let pre = c .before .before .before .before .before .before .pre .1 in
-    let inv = c .before .before .loop .inv in
-    let e = begun _ _ (c .before .begins-by .ensures) (pre .ends) (c .if1 .taken) in
-    (pre .ready, (inv .0 .onLeaf, row-meets (pre .ready .formed) _ _ _ _ (inv .0) e))
+    let pre = c .before .before .before .before .before .before .before .pre .1 in
+    let inv = c .before .before .before .loop .inv in
+    let e = begun _ _ (c .before .before .begins-by .ensures) (pre .ends) (c .before .if1 .taken) in
+    (pre .ready, (inv .0 .onLeaf, (row-meets (pre .ready .formed) _ _ _ _ (inv .0) e, c .region-of .ensures)))
 
 row-value-region-value-requires : (t : ℕ) → row-value-lts.Need-region-value-requires (row-value-claims t) (row-value-at t) row-value.Post row-value-Inv-loop row-value-μ-loop
 row-value-region-value-requires t c κs =
-    let pre = c .before .before .before .before .before .before .before .before .before .pre .1 in
-    let inv = c .before .before .before .before .before .loop .inv in
-    let e = begun _ _ (c .before .before .before .before .begins-by .ensures) (pre .ends) (c .before .before .before .if1 .taken) in
+    let pre = c .before .before .before .before .before .before .before .before .before .before .pre .1 in
+    let inv = c .before .before .before .before .before .before .loop .inv in
+    let e = begun _ _ (c .before .before .before .before .before .begins-by .ensures) (pre .ends) (c .before .before .before .before .if1 .taken) in
     let meets = row-meets (pre .ready .formed) _ _ _ _ (inv .0) e in
     let passed = c .before .before .pass-to-region .ensures in (
-      omega (arith, c .before .before .before .before .before .before .before .before .before .pre .0, meets .0, inv .0 .forward, passed .region),
-      region-meets (pre .ready .formed) _ _ _ _ (inv .0) _ _ (pre .ready) (omega (arith, pre .room, inv .2)) e passed,
+      omega (arith, c .before .before .before .before .before .before .before .before .before .before .pre .0, meets .0, inv .0 .forward, passed .region),
+      (region-meets (pre .ready .formed) _ _ _ _ (inv .0) _ _ (pre .ready) (omega (arith, pre .room, inv .2)) e passed, c .before .before .before .region-of .ensures ∙ ap (λ (k : ℕ). region (familyOf (now (c .before .before .before .before .before .before .before .before .before .before .args .file))) k) (sym (passed .region))),
     )
 
 row-value-add-total : (t : ℕ) → row-value-lts.Need-add-total (row-value-claims t) (row-value-at t) row-value.Post row-value-Inv-loop row-value-μ-loop
@@ -146,14 +148,14 @@ row-value-add-total t c =
     let e = begun _ _ (c .before .before .before .before .before .before .before .before .begins-by .ensures) (pre .ends) (c .before .before .before .before .before .before .before .if1 .taken) in
     let k = c .before .before .before .before .before .before .before .before .before .loop .at .region in
     let l = row-meets w _ _ _ _ (inv .0) e .0 in
-    omega (arith, pass-fits w _ _ _ _ (inv .0) _ _ (omega (arith, w .ordered .first-last k l, w .ordered .last-leaf k l)) (c .before .before .before .before .before .before .pass-to-region .ensures))
+    omega (arith, pass-fits w _ _ _ _ (inv .0) _ _ (omega (arith, w .ordered .first-last k l, w .ordered .last-leaf k l)) (c .before .before .before .before .before .pass-to-region .ensures))
 
 row-value-add-total-2 : (t : ℕ) → row-value-lts.Need-add-total-2 (row-value-claims t) (row-value-at t) row-value.Post row-value-Inv-loop row-value-μ-loop
 row-value-add-total-2 t c =
     let pre = c .before .before .before .before .before .before .before .before .before .before .before .before .before .pre .1 in
     let w = pre .ready .formed in
     let e = begun _ _ (c .before .before .before .before .before .before .before .before .begins-by .ensures) (pre .ends) (c .before .before .before .before .before .before .before .if1 .taken) in
-    omega (arith, row-fits w _ _ _ _ (row-steps w _ _ _ _ (c .before .before .before .before .before .before .before .before .before .loop .inv .0) _ _ _ _ e (c .before .before .before .before .before .before .pass-to-region .ensures) (c .before .before .before .region-value .ensures)))
+    omega (arith, row-fits w _ _ _ _ (row-steps w _ _ _ _ (c .before .before .before .before .before .before .before .before .before .loop .inv .0) _ _ _ _ e (c .before .before .before .before .before .pass-to-region .ensures) (c .before .before .region-value .ensures)))
 
 row-value-loop-less : (t : ℕ) → row-value-lts.Need-loop-less (row-value-claims t) (row-value-at t) row-value.Post row-value-Inv-loop row-value-μ-loop
 row-value-loop-less t c =
@@ -162,9 +164,9 @@ row-value-loop-less t c =
 
 row-value-loop-again : (t : ℕ) → row-value-lts.Need-loop-again (row-value-claims t) (row-value-at t) row-value.Post row-value-Inv-loop row-value-μ-loop
 row-value-loop-again t c =
-    let pre = c .before .before .before .before .before .before .before .before .before .before .before .before .before .pre .1 in
-    let inv = c .before .before .before .before .before .before .before .before .before .loop .inv in
-    let e = begun _ _ (c .before .before .before .before .before .before .before .before .begins-by .ensures) (pre .ends) (c .before .before .before .before .before .before .before .if1 .taken) in
+    let pre = c .before .before .before .before .before .before .before .before .before .before .before .before .before .before .pre .1 in
+    let inv = c .before .before .before .before .before .before .before .before .before .before .loop .inv in
+    let e = begun _ _ (c .before .before .before .before .before .before .before .before .before .begins-by .ensures) (pre .ends) (c .before .before .before .before .before .before .before .before .if1 .taken) in
     let passed = c .before .before .before .before .before .before .pass-to-region .ensures in
     let walk = c .before .before .before .region-value .ensures in (
       row-steps (pre .ready .formed) _ _ _ _ (inv .0) _ _ _ _ e passed walk,
@@ -200,7 +202,6 @@ pub +region-value+row-value-spec : {M : Type 1} → statement M
 +region-value+row-value-spec = close μ-region-value μ-row-value (λ t. region-value-lts.spec (region-value-claims t)
     (region-value-at t)
     region-value.Post
-    (region-value-region-of-requires t)
     (region-value-add-region t)
     (region-value-row-value-requires t)
     (region-value-cast-totals t)
@@ -216,6 +217,7 @@ pub +region-value+row-value-spec : {M : Type 1} → statement M
     row-value-μ-loop
     (row-value-loop-holds t)
     (row-value-begins-by-requires t)
+    (row-value-region-of-requires t)
     (row-value-pass-to-region-requires t)
     (row-value-region-value-requires t)
     (row-value-add-total t)
