@@ -1,5 +1,5 @@
--- The theorem on lists of selections: what `bound_list` answers and writes. Each value is the bound that its selection gets when it is
--- sent to `bound` alone, and so formula (3); the charge is K for the whole list; and the tally, over all calls, grows by the charges alone.
+-- The theorem on lists of selections: what `bound_list` answers and writes. Each value is the bound that its selection gets when it
+-- is sent to `bound` alone, and so formula (3); the charge is K for the whole list; after any call the tally has grown by its charge.
 use Prim.Native.Nat.{ℕ, _+_, _*_, _≤_, _<_}
 use mathlib.Core.Bool.{true, false}
 use mathlib.Core.List.{List, [], _++_, flatten}
@@ -14,15 +14,15 @@ use Rattle.reader.proofs.Lists.{getD-tabulate, length-tabulate}
 use Rattle.reader.proofs.First.{writes, leaves-unchanged, none-or-some}
 use Rattle.bounds.specs.Bound.{IsLargest}
 use Rattle.bounds.specs.Selections.{selected, boundOf, cause14}
-use Rattle.bounds.specs.SelectionLists.{selectionAt, listBounds, listCause14}
+use Rattle.bounds.specs.SelectionLists.{selectionAt, listBounds, listCause14, EachOf}
 use Rattle.bounds.specs.Tally.{chargeOf, added, cause25}
 use Rattle.bounds.specs.declared.Bounded.the-variants as bounded
 use Rattle.bounds.specs.declared.Listed.{Listed}
 use Rattle.bounds.specs.Calls.{listCauses, charged, listed, ListAnswers, ListWrites}
-use Rattle.bounds.specs.AcceptedCalls.{BoundCall, ListCall}
+use Rattle.bounds.specs.AcceptedCalls.{BoundCall, ListCall, AnyListCall}
 use Rattle.bounds.proofs.Theory.Theorems.{bound-is-largest}
 use Rattle.bounds.proofs.Calls.Selecting.{right-length}
-use Rattle.bounds.proofs.Calls.ListLaws.{each-selection, one-declines, front-selection, back-selection, EachOf, joined-at, joined-list, charge-none, charge-some, charge-free, nothing-added}
+use Rattle.bounds.proofs.Calls.ListLaws.{each-selection, one-declines, wrong-buffer, front-selection, back-selection, joined-at, joined-list, charge-none, charge-some, charge-free, nothing-added}
 use Rattle.bounds.proofs.Calls.ListCalls.{charged-all, charged-nothing, list-clear, list-declines, no-list-cause}
 use Rattle.bounds.proofs.DemandTwo.{peptidesIn, rangesIn, answers-bound}
 
@@ -30,27 +30,13 @@ use Rattle.bounds.proofs.DemandTwo.{peptidesIn, rangesIn, answers-bound
 abbrev pub selectionOf : (f : AcceptedFile) → ListCall f → ℕ → List ℕ
 selectionOf f c i = selectionAt (peptidesIn f) (c .selections) i
 
--- any call of `bound_list`, of any bytes, declined or not
-pub record AnyListCall : Type 0 where
-  pub file : List ℕ
-  pub selections : List ℕ
-  pub count : ℕ
-  pub tally : ℕ
-  -- the lent list before it
-  pub old-values : List ℕ
-  -- its answer, and the list after it
-  pub answer : Listed
-  pub values : List ℕ
-  -- its promises
-  pub answers : ListAnswers file selections count tally old-values answer
-  pub writes : ListWrites file selections count tally old-values values
-
 pub record BoundList : Type 0 where
-  -- For an accepted family, at most 32 selections, room for as many values and for the charge on the tally, `bound_list` declines nothing.
+  -- For an accepted family, at most 32 selections for which cause 14 does not hold, room for as many values and for the charge on the
+  -- tally, `bound_list` declines nothing.
   pub answered : (f : AcceptedFile) (c : ListCall f) → c .answer .number ≡ 0
-  -- Then `bound` has nothing to decline of any of the selections,
+  -- Then cause 14 holds for none of the selections alone,
   pub alone-accepted : (f : AcceptedFile) (c : ListCall f) (i : ℕ) → i < c .count → cause14 (peptidesIn f) (selectionOf f c i) ≡ false
-  -- and value i is the bound that it answers of selection i alone:
+  -- and value i is the bound that `bound` answers of selection i alone:
   pub value-alone : (f : AcceptedFile) (c : ListCall f) (i : ℕ) → i < c .count → (b : BoundCall f) → b .selection ≡ selectionOf f c i
       → b .answer ≡ bounded.Bound (getD (c .values) i 0)
   -- the largest count of selection i in any admissible set, formula (3).
@@ -73,7 +59,10 @@ pub record BoundList : Type 0 where
   -- if it holds for one selection of a list, the whole list is declined with it.
   pub one-declines : (f : AcceptedFile) (c : AnyListCall) → c .file ≡ f .file → (i : ℕ) → i < c .count
       → cause14 (peptidesIn f) (selectionAt (peptidesIn f) (c .selections) i) ≡ true → c .answer .number ≡ 14
-  -- What the list holds from place count on stays as it was, and so does its length.
+  -- So is one whose buffer has not count times m bytes: a list of no selection with any byte, too.
+  pub wrong-length : (f : AcceptedFile) (c : AnyListCall) → c .file ≡ f .file → (length (c .selections) ≡ c .count * peptidesIn f → ⊥)
+      → c .answer .number ≡ 14
+  -- What the lent list holds from place count on stays as it was, and so does its length.
   pub rest : (f : AcceptedFile) (c : ListCall f) → drop (c .count) (c .values) ≡ drop (c .count) (c .old-values)
   pub same-length : (f : AcceptedFile) (c : ListCall f) → length (c .values) ≡ length (c .old-values)
   -- The charge is K, however many selections the list has; an empty one is free.
@@ -107,6 +96,12 @@ module _ (c : AnyListCall) where
   charge-is : c .answer .charge ≡ charged causes theCharge
   unfolding listed
   charge-is = ap (λ (r : Listed). r .charge) (c .answers)
+
+  fourteen : (f : AcceptedFile) → c .file ≡ f .file → listCause14 (peptidesIn f) (c .selections) (c .count) ≡ true → c .answer .number ≡ 14
+  fourteen f e h =
+      number-is
+      ∙ ap (λ (s : List ℕ). firstCause (listCauses s (c .selections) (c .count) (c .tally) (length (c .old-values)))) e
+      ∙ list-declines (f .file) (c .selections) (c .count) (c .tally) _ (f .accepted) h
 
   grows : c .answer .tally ≡ c .tally + c .answer .charge
   unfolding listed added
@@ -221,11 +216,8 @@ bound-list =
           ∙ ap (λ (s : List ℕ). boundOf (familyOf (f .file)) (selectionAt (peptidesIn f) s i)) e
           ∙ ap (boundOf (familyOf (f .file))) (joined-at (peptidesIn f) L all i l);
       joined-accepted = λ f. joined-list (peptidesIn f);
-      one-declines =
-          λ f c e i l t.
-          number-is c
-          ∙ ap (λ (s : List ℕ). firstCause (listCauses s (c .selections) (c .count) (c .tally) (length (c .old-values)))) e
-          ∙ list-declines (f .file) (c .selections) (c .count) (c .tally) _ (f .accepted) (one-declines (peptidesIn f) (c .selections) i (c .count) l t);
+      one-declines = λ f c e i l t. fourteen c f e (one-declines (peptidesIn f) (c .selections) i (c .count) l t);
+      wrong-length = λ f c e h. fourteen c f e (wrong-buffer (peptidesIn f) (c .selections) (c .count) h);
       rest = rest-kept;
       same-length = length-kept;
       charge-some = λ f c h. charge-all f c ∙ charge-some (regionCount (familyOf (f .file))) (c .count) h;

@@ -1,6 +1,6 @@
--- Calls of `curve`, `cut`, `bound` and `bound_list` that have nothing to decline: an accepted file, a path, a selection or a list of
--- them, and room for what is written. Of the answer and of what the call leaves in the lent lists they hold the promises of the contracts
--- that the theorems need.
+-- Calls of `curve`, `cut`, `bound` and `bound_list` that have nothing to decline: an accepted file, a path, a selection or a list
+-- of them, and room for what is written. Of the answer and of what the call leaves in the lent lists they hold the promises of the
+-- contracts that the theorems need. At the end any call of `bound_list`, declined or not.
 use Prim.Native.Nat.{ℕ, _+_, _≤_}
 use mathlib.Core.Bool.{false}
 use mathlib.Core.List.{List}
@@ -79,3 +79,18 @@ pub record ListCall (f : AcceptedFile) : Type 0 where
   -- its promises
   pub answers : ListAnswers (f .file) selections count tally old-values answer
   pub writes : ListWrites (f .file) selections count tally old-values values
+
+-- any call of `bound_list`, of any bytes
+pub record AnyListCall : Type 0 where
+  pub file : List ℕ
+  pub selections : List ℕ
+  pub count : ℕ
+  pub tally : ℕ
+  -- the lent list before it
+  pub old-values : List ℕ
+  -- its answer, and the list after it
+  pub answer : Listed
+  pub values : List ℕ
+  -- its promises
+  pub answers : ListAnswers file selections count tally old-values answer
+  pub writes : ListWrites file selections count tally old-values values

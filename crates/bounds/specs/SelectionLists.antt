@@ -1,8 +1,9 @@
 -- A list of selections, joined in one buffer: the first m bytes are the first selection, the next m the second, and so on.
-use Prim.Native.Nat.{ℕ, _*_}
+use Prim.Native.Nat.{ℕ, _*_, _<_}
 use mathlib.Core.Bool.{Bool}
-use mathlib.Core.List.{List}
-use lib.ListN.{take, drop}
+use mathlib.Core.List.{List, []}
+use mathlib.Core.Path.{_≡_}
+use lib.ListN.{length, getD, take, drop}
 use lib.Dec.{ltb}
 use Rattle.reader.specs.Lists.{tabulate}
 use Rattle.reader.specs.Family.{Family}
@@ -23,3 +24,7 @@ listCause14 m selections count = cause14 (count * m) selections
 -- more than 32 selections
 unfoldable pub cause24 : ℕ → Bool
 cause24 count = ltb 32 count
+
+-- each of the selections has m bytes
+abbrev pub EachOf : ℕ → List (List ℕ) → Type 0
+EachOf m L = (i : ℕ) → i < length L → length (getD L i []) ≡ m

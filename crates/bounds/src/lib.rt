@@ -1,4 +1,5 @@
-// The bound of a selection with its taken regions, the bounds of a list of selections, the curve along a path with its marks, and the cut.
+// The bound of a selection with its taken regions, the bounds of a list of selections, the curve along a path with its marks, and
+// the cut.
 mod cursor;
 mod entries;
 mod list;
@@ -27,7 +28,8 @@ pub enum Bounded {
     Refused(u16),
 }
 
-// The number of the first cause that holds, 0 for none; what the list is charged, 0 when declined; and the tally with that charge added.
+// The number of the first cause that holds, 0 for none; what the list is charged, 0 when declined; and the tally with that charge
+// added.
 pub struct Listed {
     pub number: u16,
     pub charge: u16,
@@ -77,8 +79,8 @@ pub fn inside_totals(file: &[u8], selection: &[u8], out: &mut [u16]) -> Bounded
     Bounded::Bound(value)
 }
 
-// The bounds of up to 32 selections, joined in one buffer, each as if sent by itself. The values are written from the start of the lent
-// slice; a declined call leaves it and the tally unchanged.
+// The bounds of up to 32 selections, joined in one buffer, each as if sent by itself. The values are written from the start of the
+// lent slice; a declined call leaves it and the tally unchanged.
 pub fn bound_list(
     file: &[u8],
     selections: &[u8],
@@ -99,10 +101,11 @@ pub fn bound_list(
     }
     write_bounds(file, selections, count, values);
     let charge = charge_of(region_count(file), count);
+    let tally = tally + (charge as u32);
     Listed {
         number: 0,
         charge,
-        tally: tally + (charge as u32),
+        tally,
     }
 }
 

@@ -1,5 +1,5 @@
 -- How the answer of a call becomes the fields of a struct of C: the number, then the values in their order. A field that has
--- no value is 0; a place comes with number 13 only.
+-- no value is 0; a place comes with number 13 only; the tally of a declined list is the given one.
 use Prim.Native.Nat.{ℕ, _*_}
 use mathlib.Core.Bool.{cond}
 use mathlib.Core.List.{List}

@@ -1,6 +1,7 @@
 // The C interface: the calls of the libraries under C names, and nothing else. include/phf.h is this file as C sees it.
 // A slice is a pointer and a number of elements. An answer is a struct by value: the number of the first cause that holds,
-// 0 for none, then the values; a field that has no value is 0, but a tally comes back as it came. That of a choice, and of bounds from p-values, is the number alone.
+// 0 for none, then the values; a field that has no value is 0. The tally of a declined list comes back as it came. The answer of a
+// choice, and of bounds from p-values, is the number alone.
 use bounds::Bounded;
 use bounds::Curved;
 use bounds::CutFound;

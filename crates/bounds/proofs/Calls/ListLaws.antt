@@ -13,9 +13,9 @@ use borrow.Author.Tests.{le-ltb, ne-eqb}
 use Rattle.reader.proofs.Bools.{passes, clash}
 use Rattle.reader.proofs.Below.{none-below}
 use Rattle.bounds.specs.Selections.{cause14}
-use Rattle.bounds.specs.SelectionLists.{selectionAt, listCause14}
+use Rattle.bounds.specs.SelectionLists.{selectionAt, listCause14, EachOf}
 use Rattle.bounds.specs.Tally.{chargeOf, added, cause25}
-use Rattle.bounds.proofs.Calls.Selecting.{overOne, right-length, right-byte, right-selection}
+use Rattle.bounds.proofs.Calls.Selecting.{overOne, wrong-length, right-length, right-byte, right-selection}
 
 -- The bytes of each selection.
 
@@ -73,6 +73,10 @@ module _ (m : ℕ) (selections : List ℕ) where
   pub one-declines : (i count : ℕ) → i < count → cause14 m (selectionAt m selections i) ≡ true → listCause14 m selections count ≡ true
   one-declines i count l t = passes (listCause14 m selections count) (λ f. clash t (each-selection i count f l))
 
+-- a buffer of another length
+pub wrong-buffer : (m : ℕ) (selections : List ℕ) (count : ℕ) → (length selections ≡ count * m → ⊥) → listCause14 m selections count ≡ true
+wrong-buffer m selections count h = wrong-length (count * m) selections h
+
 -- The selections of two lists, the second after the first, are those of both together.
 module _ (m n : ℕ) (front back : List ℕ) (whole : length front ≡ n * m) where
   pub front-selection : (i : ℕ) → i < n → selectionAt m (front ++ back) i ≡ selectionAt m front i
@@ -86,10 +90,6 @@ module _ (m n : ℕ) (front back : List ℕ) (whole : length front ≡ n * m) wh
   back-selection j = rw (add-mul n j m, ← whole) (ap (take m) (drop-append-add front back (j * m)))
 
 -- Selections that are joined to a list.
-
--- each of the selections has m bytes
-abbrev pub EachOf : ℕ → List (List ℕ) → Type 0
-EachOf m L = (i : ℕ) → i < length L → length (getD L i []) ≡ m
 
 module _ (m : ℕ) where
   pub joined-length : (L : List (List ℕ)) → EachOf m L → length (flatten L) ≡ length L * m

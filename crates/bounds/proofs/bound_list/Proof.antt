@@ -36,8 +36,8 @@ region-count-requires c κs = search needs
 charge-of-requires : tie.Need-charge-of-requires
 charge-of-requires c κs = search needs
 
-cast-t14 : tie.Need-cast-t14
-cast-t14 c = search needs
+cast-tally : tie.Need-cast-tally
+cast-tally c = search needs
 
 abbrev start : (c : tie.After-charge-of) → tie.Start
 start c = c .before .before .before .before .before .before .before .before .before .before .before
@@ -45,8 +45,8 @@ start c = c .before .before .before .before .before .before .before .before .bef
 charge-is : (c : tie.After-charge-of) → c .charge-of .result ≡ chargeOf (regionCount (familyOf (now (start c .args .file)))) (start c .args .count)
 charge-is c = c .charge-of .ensures ∙ ap (λ (K : ℕ). chargeOf K (start c .args .count)) (c .before .region-count .ensures)
 
-add-t15 : tie.Need-add-t15
-add-t15 c =
+add-tally : tie.Need-add-tally
+add-tally c =
     let n = no-list-cause _ _ _ _ _ (clear (c .before .before .before .before .before .before)) in
     record { fits = omega (arith, n .fits, charge-is c) }
 
@@ -67,7 +67,7 @@ bound-list-spec =
     write-bounds-requires
     region-count-requires
     charge-of-requires
-    cast-t14
-    add-t15
+    cast-tally
+    add-tally
     same-length
     returns-2)
