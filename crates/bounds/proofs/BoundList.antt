@@ -18,7 +18,7 @@ use Rattle.bounds.specs.SelectionLists.{selectionAt, listBounds, listCau
 use Rattle.bounds.specs.Tally.{chargeOf, added, cause25}
 use Rattle.bounds.specs.declared.Bounded.the-variants as bounded
 use Rattle.bounds.specs.declared.Listed.{Listed}
-use Rattle.bounds.specs.Calls.{listCauses, charged, listed, ListAnswers, ListWrites}
+use Rattle.bounds.specs.Calls.{listCauses, charged, listed}
 use Rattle.bounds.specs.AcceptedCalls.{BoundCall, ListCall, AnyListCall}
 use Rattle.bounds.proofs.Theory.Theorems.{bound-is-largest}
 use Rattle.bounds.proofs.Calls.Selecting.{right-length}

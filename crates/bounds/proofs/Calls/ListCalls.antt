@@ -15,7 +15,6 @@ use Rattle.reader.proofs.Accepting.{file-numbered}
 use Rattle.reader.proofs.Lists.{length-tabulate}
 use Rattle.bounds.specs.SelectionLists.{listBounds, listCause14, cause24}
 use Rattle.bounds.specs.Tally.{chargeOf, added, cause25}
-use Rattle.bounds.specs.declared.Listed.{Listed}
 use Rattle.bounds.specs.Calls.{listInputs, listCauses, charged, listed}
 use Rattle.bounds.proofs.Calls.Selecting.{right-length}
 

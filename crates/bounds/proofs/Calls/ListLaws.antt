@@ -40,7 +40,7 @@ module _ (m : ℕ) (selections : List ℕ) where
   pub selection-ends : (i count start : ℕ) → length selections ≡ count * m → i < count → start ≡ i * m → start + m ≤ length selections
   selection-ends i count start whole l e = omega (arith, places m l)
 
-  pub selection-byte : (i j : ℕ) → j < m → getD (selectionAt m selections i) j 0 ≡ getD selections (i * m + j) 0
+  selection-byte : (i j : ℕ) → j < m → getD (selectionAt m selections i) j 0 ≡ getD selections (i * m + j) 0
   unfolding selectionAt
   selection-byte i j l = getD-take m (drop (i * m) selections) j 0 l ∙ getD-drop (i * m) selections j 0
 
@@ -54,7 +54,7 @@ module _ (m : ℕ) (selections : List ℕ) where
       (λ j k. ap (ltb 1) (selection-byte i j (omega arith)) ∙ right-byte (count * m) selections h (i * m + j) (omega (arith, places m l))))
 
   -- and if it holds for none, it does not hold for the list
-  pub list-if-each : (count : ℕ) → length selections ≡ count * m → ((i : ℕ) → i < count → cause14 m (selectionAt m selections i) ≡ false)
+  list-if-each : (count : ℕ) → length selections ≡ count * m → ((i : ℕ) → i < count → cause14 m (selectionAt m selections i) ≡ false)
       → listCause14 m selections count ≡ false
   list-if-each count all each =
       right-selection (count * m) selections all (none-below (overOne selections) (length selections) (λ k l. at k (omega arith)))
@@ -92,7 +92,7 @@ module _ (m n : ℕ) (front back : List ℕ) (whole : length front ≡ n * m) wh
 -- Selections that are joined to a list.
 
 module _ (m : ℕ) where
-  pub joined-length : (L : List (List ℕ)) → EachOf m L → length (flatten L) ≡ length L * m
+  joined-length : (L : List (List ℕ)) → EachOf m L → length (flatten L) ≡ length L * m
   unfolding flatten
   joined-length [] all = sym (zero-mul m)
   joined-length (l ∷ L) all =

@@ -6,7 +6,6 @@ use denote.Ref.{now}
 use Rattle.reader.specs.Family.{familyOf, region}
 use Rattle.reader.proofs.Parsed.{held-first}
 use Rattle.bounds.proofs.Summing.RowWalk.{passed-to}
-use borrow.Author.Needs.{needs}
 use Rattle.bounds.proofs.cursor.pass_to_region.Statement.{statement}
 use Rattle.bounds.proofs.cursor.pass_to_region.Tie as tie
 
