@@ -91,11 +91,12 @@ extern "C" {
 #define PHF_VERSION_MINOR 15
 #define PHF_VERSION_PATCH 0
 
-/* The largest sizes: peptides, leaves, regions, and bytes of a family file. */
+/* The largest sizes: peptides, leaves, regions, and bytes of a family file; selections of a list. */
 #define PHF_MOST_PEPTIDES 4096
 #define PHF_MOST_LEAVES 4096
 #define PHF_MOST_REGIONS 8191
 #define PHF_MOST_BYTES 57354
+#define PHF_MOST_SELECTIONS 32
 
 /*
  * The numbers, each with its cause. Causes are tried in this order, each over its whole input; those of inputs that a call
@@ -150,7 +151,7 @@ enum phf_number {
     PHF_BAD_DEVIATION = 22,
     /* level is 0 or over 1000000 */
     PHF_BAD_LEVEL = 23,
-    /* there are more than 32 selections */
+    /* there are more than PHF_MOST_SELECTIONS selections */
     PHF_TOO_MANY_SELECTIONS = 24,
     /* the tally would pass 4294967295 */
     PHF_TALLY_TOO_LARGE = 25

@@ -109,8 +109,8 @@ static uint16_t list_number(size_t file_len, size_t selections_len, uint16_t cou
 
 static void list_declines(void)
 {
-    uint8_t none[8 * 33];
-    uint16_t values[33];
+    uint8_t none[8 * (PHF_MOST_SELECTIONS + 1)];
+    uint16_t values[PHF_MOST_SELECTIONS + 1];
     phf_listed answer;
     memset(none, 0, sizeof none);
     values[0] = 777;
@@ -122,14 +122,17 @@ static void list_declines(void)
     HOLDS(list_number(54, 8 * 31, 31, UINT32_C(4294967291), 30) == PHF_SHORT_OUTPUT);
     HOLDS(list_number(54, 8 * 31, 31, UINT32_C(4294967291), 31) == PHF_TALLY_TOO_LARGE);
     HOLDS(list_number(54, 8, 1, UINT32_C(4294967295), 33) == PHF_TALLY_TOO_LARGE);
-    answer = phf_bounds_list(eight, sizeof eight, none, sizeof none, 33, UINT32_C(4294967291), values, 32);
+    answer = phf_bounds_list(eight, sizeof eight, none, sizeof none, PHF_MOST_SELECTIONS + 1, UINT32_C(4294967291), values,
+                             PHF_MOST_SELECTIONS);
     HOLDS(answer.number == PHF_SHORT_OUTPUT && answer.charge == 0 && answer.tally == UINT32_C(4294967291));
-    answer = phf_bounds_list(eight, sizeof eight, none, sizeof none, 33, UINT32_C(4294967291), values, 33);
+    answer = phf_bounds_list(eight, sizeof eight, none, sizeof none, PHF_MOST_SELECTIONS + 1, UINT32_C(4294967291), values,
+                             PHF_MOST_SELECTIONS + 1);
     HOLDS(answer.number == PHF_TOO_MANY_SELECTIONS && answer.charge == 0 && answer.tally == UINT32_C(4294967291));
     HOLDS(values[0] == 777);
-    answer = phf_bounds_list(eight, sizeof eight, none, 8 * 32, 32, UINT32_C(4294967290), values, 32);
+    answer = phf_bounds_list(eight, sizeof eight, none, 8 * PHF_MOST_SELECTIONS, PHF_MOST_SELECTIONS, UINT32_C(4294967290),
+                             values, PHF_MOST_SELECTIONS);
     HOLDS(answer.number == PHF_DONE && answer.charge == 5 && answer.tally == UINT32_C(4294967295));
-    HOLDS(values[0] == 0 && values[31] == 0);
+    HOLDS(values[0] == 0 && values[PHF_MOST_SELECTIONS - 1] == 0);
 }
 
 static void curve_and_cut(void)
