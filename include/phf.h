@@ -5,7 +5,8 @@
  * peptides are false. These calls check such a family, compute its z from p-values, tell how many of a selection of
  * peptides can be false at most, for one selection or for up to 32, make such a selection from p-values and fold changes,
  * draw that number along a ranking, cut the ranking at a wanted fraction, draw the hybrid of that number and of the Simes
- * bound from p-values, bring a family into its shortest form, and compare two families.
+ * bound from p-values, bring a family into its shortest form, compare two families, and convert a family file into one that
+ * lists the regions by level, and back.
  *
  * Every function here is proved: for all inputs, well formed or not, it returns and writes what is said below.
  * What the proofs take for granted is the usual contract of C:
@@ -31,6 +32,8 @@
  *     phf_hybrid                                                    56 KB
  *     phf_reduce                                                   156 KB
  *     phf_same                                                     268 KB
+ *     phf_to_levels                                                 68 KB
+ *     phf_from_levels                                              140 KB
  *     phf_choose_at_most, phf_choose_between, phf_choose_volcano     4 KB
  *
  * BUILDING. tools/staticlib proves the functions and writes target/staticlib/libphf.a, to link with a program;
@@ -48,6 +51,13 @@
  * regions, each first leaf, last leaf, z. Peptides are numbered from 1 to m, leaves from 1 to N; they are different
  * things. A leaf may have no peptide (a protein with nothing measured), so N may be larger than m. A region has all
  * peptides of its leaves: it may have none, and two regions may have the same ones. Nesting goes by leaf numbers.
+ *
+ * THE FILE BY LEVEL lists the same family outermost regions first. A region with no region around it has level 1, one with
+ * h - 1 around it level h; with at most 63 around it there are 64 levels. From offset 0: the mark "PHFL", m, N, K, the offset
+ * of the leaf lengths (144), the offset of the regions (144 + 2N), the total length (144 + 2N + 6K); then 64 level counts,
+ * how many regions have level 1, level 2 and so on; then the N leaf lengths and the K regions as above, the regions by level
+ * and within a level by first leaf, strictly rising. Only phf_from_levels reads such a file. For every other call it is
+ * PHF_NOT_A_FAMILY_FILE (101 as the second file of phf_same).
  *
  * EXAMPLE, for a main with <stdio.h>: the curve of a family with 8 peptides, 4 leaves and 5 regions, and the bound of a
  * selection.
@@ -88,15 +98,20 @@ extern "C" {
  * others may be added: MINOR rises then. PATCH rises when all of these stay as they are.
  */
 #define PHF_VERSION_MAJOR 0
-#define PHF_VERSION_MINOR 15
+#define PHF_VERSION_MINOR 16
 #define PHF_VERSION_PATCH 0
 
-/* The largest sizes: peptides, leaves, regions, and bytes of a family file; selections of a list. */
+/*
+ * The largest sizes: peptides, leaves, regions, and bytes of a family file; selections of a list; levels, and bytes of a file by
+ * level.
+ */
 #define PHF_MOST_PEPTIDES 4096
 #define PHF_MOST_LEAVES 4096
 #define PHF_MOST_REGIONS 8191
 #define PHF_MOST_BYTES 57354
 #define PHF_MOST_SELECTIONS 32
+#define PHF_MOST_LEVELS 64
+#define PHF_MOST_BYTES_BY_LEVEL 57482
 
 /*
  * The numbers, each with its cause. Causes are tried in this order, each over its whole input; those of inputs that a call
@@ -105,7 +120,10 @@ extern "C" {
 enum phf_number {
     /* none: the call did its work */
     PHF_DONE = 0,
-    /* the file has under 16 bytes, or does not begin with the bytes 50 48 46 42 (hexadecimal), "PHFB" */
+    /*
+     * the file has under 16 bytes, or does not begin with the bytes 50 48 46 42 (hexadecimal), "PHFB", which for phf_from_levels
+     * are 50 48 46 4C, "PHFL"
+     */
     PHF_NOT_A_FAMILY_FILE = 1,
     /* m, the number of peptides, is 0 or over 4096 */
     PHF_BAD_PEPTIDE_COUNT = 2,
@@ -154,7 +172,14 @@ enum phf_number {
     /* there are more than PHF_MOST_SELECTIONS selections */
     PHF_TOO_MANY_SELECTIONS = 24,
     /* the tally would pass 4294967295 */
-    PHF_TALLY_TOO_LARGE = 25
+    PHF_TALLY_TOO_LARGE = 25,
+    /* the level counts do not add to K */
+    PHF_BAD_LEVEL_COUNTS = 26,
+    /*
+     * a region has another level than the counts say of its place, or in its level no greater first leaf than the region before
+     * it, or the leaves of an earlier region
+     */
+    PHF_REGIONS_NOT_BY_LEVEL = 27
 };
 
 /* What phf_same adds to a number of its second file: PHF_OF_SECOND_FILE + PHF_BAD_LAYOUT is 105. */
@@ -361,6 +386,27 @@ typedef struct phf_compared {
 } phf_compared;
 
 phf_compared phf_same(const uint8_t *first, size_t first_len, const uint8_t *second, size_t second_len);
+
+/*
+ * A family file as a file by level, for those who list the outermost regions first (phf_to_levels), and a file by level as a
+ * family file (phf_from_levels). What is written has the same m, leaf lengths and regions with their z. The other call accepts
+ * it, and gives back the given file, byte for byte.
+ *
+ * out: phf_to_levels needs file_len + 128 bytes, phf_from_levels file_len - 128. That many, which `length` tells, become the
+ *      file, and the rest is unchanged.
+ *
+ * phf_to_levels tries the causes 1 to 10, 16; phf_from_levels 1 to 7, 9, 10, 16, 26, 27, in this order. There 5 is judged by the
+ * layout of a file by level; 9 and 10 in whatever order the regions stand, and a region with the leaves of an earlier one,
+ * whatever its z, is left out for them. Such a region gives 27.
+ */
+typedef struct phf_converted {
+    uint16_t number;
+    uint16_t length;
+} phf_converted;
+
+phf_converted phf_to_levels(const uint8_t *file, size_t file_len, uint8_t *out, size_t out_len);
+
+phf_converted phf_from_levels(const uint8_t *file, size_t file_len, uint8_t *out, size_t out_len);
 
 #ifdef __cplusplus
 }

@@ -41,8 +41,8 @@ def causes():
 class Table(unittest.TestCase):
     def test_a_row_for_each_number(self):
         found = causes()
-        self.assertEqual(list(found), [str(number) for number in range(1, 26)])
-        self.assertEqual(len(set(found.values())), 25)
+        self.assertEqual(list(found), [str(number) for number in range(1, 28)])
+        self.assertEqual(len(set(found.values())), 27)
 
 
 class Shown(unittest.TestCase):
@@ -102,6 +102,7 @@ class Shown(unittest.TestCase):
             (1, None),
             (1, b""),
             (1, b"PHFC" + GOOD[4:]),
+            (1, b"PHFL" + GOOD[4:]),
             (2, family.family_bytes([], [])),
             (2, family.family_bytes([4097], [])),
             (3, with_number(GOOD, 6, 0)),

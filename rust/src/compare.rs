@@ -231,6 +231,47 @@ pub fn same(first: &[u8], second: &[u8]) -> (u16, u16) {
     (answer.number, answer.same)
 }
 
+/// The conversion to a file by level into `room` places; the number.
+pub fn to_levels(file: &[u8], room: usize) -> u16 {
+    let written = reference::to_levels(file, room);
+    let written = written.map(|by_level| reference::level_file_of(&by_level));
+    conversion(guarded::to_levels, file, room, written)
+}
+
+/// The conversion of a file by level into `room` places; the number.
+pub fn from_levels(file: &[u8], room: usize) -> u16 {
+    let written = reference::from_levels(file, room);
+    let written = written.map(|family| reference::file_of(&family));
+    conversion(guarded::from_levels, file, room, written)
+}
+
+/// A conversion held to the file that it has to write, or to the number that it has to tell.
+fn conversion(
+    convert: fn(&[u8], &mut [u8]) -> phf::Converted,
+    file: &[u8],
+    room: usize,
+    written: Result<Vec<u8>, u16>,
+) -> u16 {
+    let before = before_u8(room);
+    let mut out = before.clone();
+    let answer = convert(file, &mut out);
+    match written {
+        Ok(bytes) => {
+            let expected = phf::Converted {
+                number: 0,
+                length: bytes.len() as u16,
+            };
+            assert_eq!(answer, expected);
+            assert_eq!(out, with_front(&bytes, &before));
+        }
+        Err(number) => {
+            assert_eq!(answer, phf::Converted { number, length: 0 });
+            assert_eq!(out, before);
+        }
+    }
+    answer.number
+}
+
 /// The choice into `room` places; the number.
 pub fn choose(m: u16, p_values: &[f64], folds: &[f64], rule: reference::Rule, room: usize) -> u16 {
     let before = before_u8(room);

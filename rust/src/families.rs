@@ -1,7 +1,7 @@
 //! Families to test with: random ones, the extreme ones, and files broken at one place.
 
 use crate::random::Random;
-use crate::reference::{file_of, Family, Region};
+use crate::reference::{file_of, level_file_of, ByLevel, Family, Region};
 
 /// n lengths of at least 1 that add to m.
 fn lengths(random: &mut Random, m: usize, n: usize) -> Vec<u16> {
@@ -227,6 +227,54 @@ pub fn chain_over_one_leaf(depth: usize, z: u16) -> Family {
     chain
 }
 
+/// A region for each of n leaves, and `depth` - 1 around the first of them, nested in each other, from all leaves down: the first
+/// leaves are at level `depth`, the last at level 2.
+pub fn chain_over_leaves(n: usize, depth: usize, z: u16) -> Family {
+    let mut chain = chain(n, depth - 1, z);
+    chain.regions.extend((1..=n as u16).map(|leaf| Region {
+        first: leaf,
+        last: leaf,
+        z,
+    }));
+    chain
+}
+
+// Families by level.
+
+/// An accepted family by level. In file order those around a region are the ones before it that have not ended: how many they are
+/// is counted on the way, and no two regions are compared.
+pub fn by_level(family: &Family) -> ByLevel {
+    let mut levels = vec![Vec::new(); 64];
+    let mut open: Vec<u16> = Vec::new();
+    for region in &family.regions {
+        while open.last().is_some_and(|last| *last < region.first) {
+            open.pop();
+        }
+        levels[open.len()].push(*region);
+        open.push(region.last);
+    }
+    ByLevel {
+        family: Family {
+            regions: levels.concat(),
+            ..family.clone()
+        },
+        counts: std::array::from_fn(|h| levels[h].len() as u16),
+    }
+}
+
+/// The file by level of an accepted family.
+pub fn level_file(family: &Family) -> Vec<u8> {
+    level_file_of(&by_level(family))
+}
+
+/// A family by level as it is listed: its leaf lengths, its regions in any order, and the level counts up to the last that is not 0.
+pub fn listed(lengths: &[u16], regions: &[(u16, u16, u16)], counts: &[u16]) -> ByLevel {
+    ByLevel {
+        family: family(lengths, regions),
+        counts: std::array::from_fn(|h| counts.get(h).copied().unwrap_or(0)),
+    }
+}
+
 // Files broken at one place.
 
 fn put(file: &mut [u8], at: usize, number: usize) {
@@ -252,11 +300,22 @@ fn add(file: &mut [u8], at: usize, by: u16) {
 /// How many kinds of damage `damage` knows.
 pub const DAMAGES: usize = 25;
 
+/// Where the leaf lengths begin.
+fn start_of(file: &[u8]) -> usize {
+    if file.starts_with(b"PHFL") {
+        144
+    } else {
+        16
+    }
+}
+
 /// Damages a file near the edge of some cause. What comes of it the reference says: one damage can hide or undo another.
 pub fn damage(random: &mut Random, kind: usize, file: &mut Vec<u8>) {
     let (n, k) = (get(file, 6), get(file, 8));
-    let leaf = 16 + 2 * random.below(n.max(1));
-    let region = 16 + 2 * n + 6 * random.below(k.max(1));
+    let start = start_of(file);
+    let middle = start + 2 * n;
+    let leaf = start + 2 * random.below(n.max(1));
+    let region = middle + 6 * random.below(k.max(1));
     match kind {
         0 => file.truncate(random.below(17).min(file.len())),
         1 => {
@@ -268,12 +327,12 @@ pub fn damage(random: &mut Random, kind: usize, file: &mut Vec<u8>) {
         2 => put(file, 4, [0, 4096, 4097, 65535][random.below(4)]),
         3 => put(file, 6, [0, 4096, 4097, 65535][random.below(4)]),
         4 => put(file, 8, [2 * n - n.min(1), 2 * n, 65535][random.below(3)]),
-        5 => put(file, 10, [15, 17, 0, 16][random.below(4)]),
-        6 => put(file, 12, (16 + 2 * n + random.below(3)).saturating_sub(1)),
+        5 => put(file, 10, [start - 1, start + 1, 0, start][random.below(4)]),
+        6 => put(file, 12, (middle + random.below(3)).saturating_sub(1)),
         7 => put(
             file,
             14,
-            (16 + 2 * n + 6 * k + random.below(3)).saturating_sub(1),
+            (middle + 6 * k + random.below(3)).saturating_sub(1),
         ),
         8 => {
             file.pop();
@@ -283,7 +342,7 @@ pub fn damage(random: &mut Random, kind: usize, file: &mut Vec<u8>) {
         11 => add(file, leaf, 1),
         12 => {
             // the sum stays, unless the other leaf is empty and wraps around
-            let other = 16 + 2 * random.below(n.max(1));
+            let other = start + 2 * random.below(n.max(1));
             add(file, leaf, 1);
             add(file, other, u16::MAX);
         }
@@ -294,17 +353,13 @@ pub fn damage(random: &mut Random, kind: usize, file: &mut Vec<u8>) {
         }
         15 => put(file, region + 2, n + random.below(2)),
         16 if k >= 2 => {
-            // two regions next to each other change places
-            let at = 16 + 2 * n + 6 * random.below(k - 1);
-            if at + 12 <= file.len() {
-                let six: Vec<u8> = file[at..at + 6].to_vec();
-                file.copy_within(at + 6..at + 12, at);
-                file[at + 6..at + 12].copy_from_slice(&six);
-            }
+            // two regions next to each other
+            let at = middle + 6 * random.below(k - 1);
+            change_places(file, at, at + 6);
         }
         17 if k >= 2 => {
             // a region twice
-            let at = 16 + 2 * n + 6 * random.below(k - 1);
+            let at = middle + 6 * random.below(k - 1);
             if at + 12 <= file.len() {
                 file.copy_within(at..at + 4, at + 6);
             }
@@ -321,12 +376,65 @@ pub fn damage(random: &mut Random, kind: usize, file: &mut Vec<u8>) {
         22 => put(file, leaf, 65535),
         23 => {
             // a leaf becomes empty and another one gets its peptides, which is no damage
-            let other = 16 + 2 * random.below(n.max(1));
+            let other = start + 2 * random.below(n.max(1));
             let length = get(file, leaf) as u16;
             put(file, leaf, 0);
             add(file, other, length);
         }
         _ => file.clear(),
+    }
+}
+
+/// The regions at two offsets, the first before the second.
+fn change_places(file: &mut [u8], at: usize, other: usize) {
+    if at + 6 <= other && other + 6 <= file.len() {
+        let (front, back) = file.split_at_mut(other);
+        front[at..at + 6].swap_with_slice(&mut back[..6]);
+    }
+}
+
+/// How many kinds of damage `damage_levels` knows.
+pub const LEVEL_DAMAGES: usize = 11;
+
+/// Damages what a file by level is judged by and a family file is not: its counts, the order of its regions, and that none is listed
+/// twice.
+pub fn damage_levels(random: &mut Random, kind: usize, file: &mut [u8]) {
+    let (n, k) = (get(file, 6), get(file, 8));
+    let middle = start_of(file) + 2 * n;
+    let count = |level: usize| 16 + 2 * (level - 1);
+    // mostly one of the levels that there are
+    let some_level = |random: &mut Random| match random.below(4) {
+        0 => random.between(1, 64),
+        _ => random.between(1, 5),
+    };
+    let (level, other) = (some_level(random), some_level(random));
+    let mut regions = [random.below(k.max(1)), random.below(k.max(1))];
+    regions.sort();
+    let [at, behind] = regions.map(|i| middle + 6 * i);
+    match kind {
+        0 => add(file, count(level), 1),
+        1 => add(file, count(level), u16::MAX),
+        2 => put(file, count(level), [0, k, 65535][random.below(3)]),
+        // the sum stays, or stays in 16 bits only
+        3 | 4 => {
+            add(file, count(level), 1);
+            add(file, count(other), u16::MAX);
+        }
+        5 => {
+            let (one, two) = (get(file, count(level)), get(file, count(other)));
+            put(file, count(level), two);
+            put(file, count(other), one);
+        }
+        6 | 7 => change_places(file, at, behind),
+        // a region with the leaves of another
+        8 if behind + 6 <= file.len() => file.copy_within(at..at + 4, behind),
+        9 if behind + 6 <= file.len() => file.copy_within(behind..behind + 4, at),
+        // each region stands where another one was
+        _ if k >= 2 && middle + 6 * k <= file.len() => {
+            let regions = &mut file[middle..middle + 6 * k];
+            regions.rotate_left(6 * random.below(k));
+        }
+        _ => {}
     }
 }
 
@@ -406,7 +514,7 @@ fn all_lengths_of(m: u16, n: usize) -> Vec<Vec<u16>> {
 }
 
 /// The sets of nested or disjoint leaf ranges on n leaves, each in file order.
-fn all_ranges(n: usize) -> Vec<Vec<(usize, usize)>> {
+pub fn all_ranges(n: usize) -> Vec<Vec<(usize, usize)>> {
     let mut possible = Vec::new();
     for first in 1..=n {
         for last in (first..=n).rev() {

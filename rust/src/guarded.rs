@@ -3,7 +3,9 @@
 
 use crate::buffers::{reading, writing};
 use crate::families::has_empty_leaf;
-use crate::phf::{self, Bounded, Checked, Compared, Curved, Cutting, Listed, Part, Reduced};
+use crate::phf::{
+    self, Bounded, Checked, Compared, Converted, Curved, Cutting, Listed, Part, Reduced,
+};
 use crate::reference::Rule;
 
 pub fn check(file: &[u8]) -> Checked {
@@ -134,6 +136,30 @@ pub fn same(first: &[u8], second: &[u8]) -> Compared {
     reading(first, |first| {
         reading(second, |second| phf::same(first, second))
     })
+}
+
+pub fn to_levels(file: &[u8], out: &mut [u8]) -> Converted {
+    reading(file, |file| writing(out, |out| phf::to_levels(file, out)))
+}
+
+/// The file by level of an accepted one, in a room just as long as it.
+pub fn by_level(file: &[u8]) -> Vec<u8> {
+    let mut out = vec![0xEE; file.len() + 128];
+    let answer = to_levels(file, &mut out);
+    assert_eq!((answer.number, answer.length as usize), (0, out.len()));
+    out
+}
+
+pub fn from_levels(file: &[u8], out: &mut [u8]) -> Converted {
+    reading(file, |file| writing(out, |out| phf::from_levels(file, out)))
+}
+
+/// The family file of an accepted one by level, in a room just as long as it.
+pub fn by_leaf(file: &[u8]) -> Vec<u8> {
+    let mut out = vec![0xEE; file.len() - 128];
+    let answer = from_levels(file, &mut out);
+    assert_eq!((answer.number, answer.length as usize), (0, out.len()));
+    out
 }
 
 /// The one of the three choices that the rule is of.

@@ -61,6 +61,13 @@ pub struct Compared {
     pub same: u16,
 }
 
+#[repr(C)]
+#[derive(Clone, Copy, Debug, PartialEq, Eq)]
+pub struct Converted {
+    pub number: u16,
+    pub length: u16,
+}
+
 extern "C" {
     fn phf_check(file: *const u8, file_len: usize) -> Checked;
     fn phf_regions(file: *const u8, file_len: usize) -> Part;
@@ -127,6 +134,9 @@ extern "C" {
         second: *const u8,
         second_len: usize,
     ) -> Compared;
+    fn phf_to_levels(file: *const u8, file_len: usize, out: *mut u8, out_len: usize) -> Converted;
+    fn phf_from_levels(file: *const u8, file_len: usize, out: *mut u8, out_len: usize)
+        -> Converted;
     fn phf_choose_at_most(
         m: u16,
         p: *const f64,
@@ -267,6 +277,14 @@ pub fn reduce(file: &[u8], out: &mut [u8]) -> Reduced {
 
 pub fn same(first: &[u8], second: &[u8]) -> Compared {
     unsafe { phf_same(first.as_ptr(), first.len(), second.as_ptr(), second.len()) }
+}
+
+pub fn to_levels(file: &[u8], out: &mut [u8]) -> Converted {
+    unsafe { phf_to_levels(file.as_ptr(), file.len(), out.as_mut_ptr(), out.len()) }
+}
+
+pub fn from_levels(file: &[u8], out: &mut [u8]) -> Converted {
+    unsafe { phf_from_levels(file.as_ptr(), file.len(), out.as_mut_ptr(), out.len()) }
 }
 
 pub fn choose_at_most(m: u16, p_values: &[f64], folds: &[f64], cut: f64, out: &mut [u8]) -> u16 {

@@ -19,18 +19,36 @@ pub struct Family {
 
 /// The file of a family. It need not be an accepted one.
 pub fn file_of(family: &Family) -> Vec<u8> {
+    laid_out(b"PHFB", &[], family)
+}
+
+/// A family by level: its regions as they stand in the file, and how many regions of each level there are, from level 1 on.
+#[derive(Clone, Debug, PartialEq, Eq)]
+pub struct ByLevel {
+    pub family: Family,
+    pub counts: [u16; 64],
+}
+
+/// The file of a family by level. It need not be an accepted one.
+pub fn level_file_of(by_level: &ByLevel) -> Vec<u8> {
+    laid_out(b"PHFL", &by_level.counts, &by_level.family)
+}
+
+/// The mark, the header, what stands between that and the leaf lengths, the lengths and the regions.
+fn laid_out(mark: &[u8; 4], between: &[u16], family: &Family) -> Vec<u8> {
+    let start = 16 + 2 * between.len();
     let n = family.lengths.len();
     let k = family.regions.len();
-    let mut file = b"PHFB".to_vec();
+    let mut file = mark.to_vec();
     let mut put = |number: usize| file.extend((number as u16).to_le_bytes());
     put(family.peptides as usize);
     put(n);
     put(k);
-    put(16);
-    put(16 + 2 * n);
-    put(16 + 2 * n + 6 * k);
-    for length in &family.lengths {
-        put(*length as usize);
+    put(start);
+    put(start + 2 * n);
+    put(start + 2 * n + 6 * k);
+    for number in between.iter().chain(&family.lengths) {
+        put(*number as usize);
     }
     for region in &family.regions {
         put(region.first as usize);
@@ -44,10 +62,25 @@ pub fn file_of(family: &Family) -> Vec<u8> {
 
 /// The family of an accepted file, or the number of the first cause that holds.
 pub fn check(file: &[u8]) -> Result<Family, u16> {
-    if file.len() < 16 || file[0..4] != [0x50, 0x48, 0x46, 0x42] {
+    let family = read(file, b"PHFB", 16)?;
+    let regions = &family.regions;
+    if regions.windows(2).any(|two| !stands_after(two[1], two[0])) {
+        return Err(8);
+    }
+    check_nesting(regions)?;
+    Ok(family)
+}
+
+fn number_at(file: &[u8], offset: usize) -> usize {
+    file[offset] as usize + 256 * file[offset + 1] as usize
+}
+
+/// What stands in a file with this mark whose leaf lengths begin at `start`: causes 1 to 7.
+pub fn read(file: &[u8], mark: &[u8; 4], start: usize) -> Result<Family, u16> {
+    if file.len() < 16 || file[0..4] != *mark {
         return Err(1);
     }
-    let number = |offset: usize| file[offset] as usize + 256 * file[offset + 1] as usize;
+    let number = |offset: usize| number_at(file, offset);
     let (m, n, k) = (number(4), number(6), number(8));
     if m == 0 || m > 4096 {
         return Err(2);
@@ -58,18 +91,19 @@ pub fn check(file: &[u8]) -> Result<Family, u16> {
     if k > 2 * n - 1 {
         return Err(4);
     }
-    let total = 16 + 2 * n + 6 * k;
-    if number(10) != 16 || number(12) != 16 + 2 * n || number(14) != total || file.len() != total {
+    let middle = start + 2 * n;
+    let total = middle + 6 * k;
+    if number(10) != start || number(12) != middle || number(14) != total || file.len() != total {
         return Err(5);
     }
-    let lengths: Vec<u16> = (0..n).map(|j| number(16 + 2 * j) as u16).collect();
+    let lengths: Vec<u16> = (0..n).map(|j| number(start + 2 * j) as u16).collect();
     let sum: usize = lengths.iter().map(|length| *length as usize).sum();
     if sum != m {
         return Err(6);
     }
     let regions: Vec<Region> = (0..k)
         .map(|i| {
-            let at = 16 + 2 * n + 6 * i;
+            let at = middle + 6 * i;
             Region {
                 first: number(at) as u16,
                 last: number(at + 2) as u16,
@@ -83,9 +117,15 @@ pub fn check(file: &[u8]) -> Result<Family, u16> {
     {
         return Err(7);
     }
-    if regions.windows(2).any(|two| !stands_after(two[1], two[0])) {
-        return Err(8);
-    }
+    Ok(Family {
+        peptides: m as u16,
+        lengths,
+        regions,
+    })
+}
+
+/// Causes 9 and 10 of regions, in any order, of which no two have the same leaves.
+fn check_nesting(regions: &[Region]) -> Result<(), u16> {
     for (i, r) in regions.iter().enumerate() {
         for q in &regions[i + 1..] {
             let share = r.first <= q.last && q.first <= r.last;
@@ -94,17 +134,10 @@ pub fn check(file: &[u8]) -> Result<Family, u16> {
             }
         }
     }
-    for r in &regions {
-        let around = regions.iter().filter(|q| *q != r && inside(r, q)).count();
-        if around > 63 {
-            return Err(10);
-        }
+    match regions.iter().any(|r| around(r, regions) > 63) {
+        true => Err(10),
+        false => Ok(()),
     }
-    Ok(Family {
-        peptides: m as u16,
-        lengths,
-        regions,
-    })
 }
 
 fn stands_after(r: Region, before: Region) -> bool {
@@ -112,7 +145,16 @@ fn stands_after(r: Region, before: Region) -> bool {
 }
 
 fn inside(r: &Region, q: &Region) -> bool {
-    q.first <= r.first && r.last <= q.last
+    q.first <= r.first && r.last <= q.last && !same_leaves(r, q)
+}
+
+fn same_leaves(r: &Region, q: &Region) -> bool {
+    (r.first, r.last) == (q.first, q.last)
+}
+
+/// How many of the regions are around this one.
+fn around(r: &Region, regions: &[Region]) -> usize {
+    regions.iter().filter(|q| inside(r, q)).count()
 }
 
 // Causes 11 to 16.
@@ -738,4 +780,62 @@ pub fn hybrid(
     let bounds = simes(p_values, level, path);
     let smaller = |(entry, bound): (&u16, &u16)| *entry.min(bound);
     Ok(entries.iter().zip(&bounds).map(smaller).collect())
+}
+
+// Families by level: causes 1 to 10 and 16 one way; 1 to 7, 9, 10, 16, 26 and 27 the other.
+
+/// Level 1 has no region around it, level h has h - 1.
+fn level(r: &Region, regions: &[Region]) -> usize {
+    1 + around(r, regions)
+}
+
+pub fn to_levels(file: &[u8], room: usize) -> Result<ByLevel, u16> {
+    let mut family = check(file)?;
+    if room < file.len() + 128 {
+        return Err(16);
+    }
+    let given = family.regions.clone();
+    let mut counts = [0; 64];
+    for r in &given {
+        counts[level(r, &given) - 1] += 1;
+    }
+    family
+        .regions
+        .sort_by_cached_key(|r| (level(r, &given), r.first));
+    Ok(ByLevel { family, counts })
+}
+
+pub fn from_levels(file: &[u8], room: usize) -> Result<Family, u16> {
+    let mut family = read(file, b"PHFL", 144)?;
+    let listed = family.regions.clone();
+    let repeats = |i: usize| listed[..i].iter().any(|q| same_leaves(&listed[i], q));
+    let distinct: Vec<Region> = (0..listed.len())
+        .filter(|i| !repeats(*i))
+        .map(|i| listed[i])
+        .collect();
+    check_nesting(&distinct)?;
+    if room < file.len() - 128 {
+        return Err(16);
+    }
+    let counts: Vec<usize> = (0..64).map(|h| number_at(file, 16 + 2 * h)).collect();
+    if counts.iter().sum::<usize>() != listed.len() {
+        return Err(26);
+    }
+    if distinct.len() < listed.len() {
+        return Err(27);
+    }
+    let mut rest = &listed[..];
+    for (h, count) in (1..=64).zip(counts) {
+        let (stretch, behind) = rest.split_at(count);
+        let elsewhere = stretch.iter().any(|r| level(r, &listed) != h);
+        let rising = stretch.windows(2).all(|two| two[0].first < two[1].first);
+        if elsewhere || !rising {
+            return Err(27);
+        }
+        rest = behind;
+    }
+    family
+        .regions
+        .sort_by_key(|r| (r.first, std::cmp::Reverse(r.last)));
+    Ok(family)
 }

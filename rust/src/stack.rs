@@ -1,8 +1,9 @@
 //! A stack of a given size for a call, with memory below it that may not be touched, and how much of it the call has used.
 //! For the processor that the library is built for, x86-64 under Linux.
 
-use crate::families::DEVIATION_SQUARED;
+use crate::families::{level_file, DEVIATION_SQUARED};
 use crate::phf;
+use crate::reference::read;
 use std::arch::asm;
 use std::ffi::c_void;
 use std::ptr::null_mut;
@@ -114,8 +115,8 @@ pub struct Call<'a> {
     pub make: Box<dyn FnMut() -> u16 + 'a>,
 }
 
-/// Every call of the library with one family and one path; everything is selected, in each of 32 selections, the p-values rise from
-/// 0, and the choices are of 4,096 rows.
+/// Every call of the library with one accepted family, by level where the call asks for that, and one path; everything is selected,
+/// in each of 32 selections, the p-values rise from 0, and the choices are of 4,096 rows.
 pub fn every_call<'a>(file: &'a [u8], path: &'a [u16]) -> Vec<Call<'a>> {
     let m = usize::from(u16::from_le_bytes([file[4], file[5]]));
     let (mut values, mut marks) = (vec![0; 4097], vec![0; 4096]);
@@ -168,6 +169,19 @@ pub fn every_call<'a>(file: &'a [u8], path: &'a [u16]) -> Vec<Call<'a>> {
         Box::new(move || phf::reduce(file, &mut out).number),
     );
     add("phf_same", 268, Box::new(|| phf::same(file, file).number));
+    let mut by_level = vec![0; 57482];
+    add(
+        "phf_to_levels",
+        68,
+        Box::new(move || phf::to_levels(file, &mut by_level).number),
+    );
+    let leveled = level_file(&read(file, b"PHFB", 16).unwrap());
+    let mut by_leaf = vec![0; 57354];
+    add(
+        "phf_from_levels",
+        140,
+        Box::new(move || phf::from_levels(&leveled, &mut by_leaf).number),
+    );
     let rows = || (vec![0.05; 4096], vec![-2.0; 4096], vec![0; 4096]);
     let (p, folds, mut chosen) = rows();
     add(

@@ -2,11 +2,11 @@
 
 use phf_tests::compare;
 use phf_tests::families::{
-    all_but_one_empty, chain, damage, eight_peptides, family, file, random_family, DAMAGES,
-    DEVIATION_SQUARED, EIGHT_P_VALUES,
+    all_but_one_empty, chain, damage, eight_peptides, family, file, level_file, listed,
+    random_family, DAMAGES, DEVIATION_SQUARED, EIGHT_P_VALUES,
 };
 use phf_tests::random::{cases, Random};
-use phf_tests::reference::{file_of, Family};
+use phf_tests::reference::{file_of, level_file_of, Family};
 use std::cell::RefCell;
 use std::collections::BTreeMap;
 
@@ -262,6 +262,11 @@ fn cause_16_outputs() {
     assert_eq!(compare::hybrid(&loose, &[3, 1], &p_values, 50_000, 2), 16);
     assert_eq!(compare::hybrid(&loose, &[], &p_values, 50_000, 1), 0);
     assert_eq!(compare::hybrid(&loose, &[], &p_values, 50_000, 0), 16);
+    assert_eq!(compare::to_levels(&loose, loose.len() + 128), 0);
+    assert_eq!(compare::to_levels(&loose, loose.len() + 127), 16);
+    let by_level = level_file(&eight_peptides());
+    assert_eq!(compare::from_levels(&by_level, eight.len()), 0);
+    assert_eq!(compare::from_levels(&by_level, eight.len() - 1), 16);
 }
 
 #[test]
@@ -277,6 +282,31 @@ fn causes_24_and_25_list() {
     assert_eq!(told(32, 4_294_967_290), 0);
     assert_eq!(told(32, 4_294_967_291), 25);
     assert_eq!(told(33, 4_294_967_291), 24);
+}
+
+#[test]
+fn causes_26_and_27_levels() {
+    let told = |regions: &[(u16, u16, u16)], counts: &[u16]| {
+        let file = level_file_of(&listed(&[1; 4], regions, counts));
+        compare::from_levels(&file, file.len() - 128)
+    };
+    let regions = [(1, 3, 1), (4, 4, 1), (2, 3, 1)];
+    assert_eq!(told(&regions, &[2, 1]), 0);
+    assert_eq!(told(&regions, &[2, 0]), 26);
+    assert_eq!(told(&regions, &[2, 2]), 26);
+    assert_eq!(told(&regions, &[3, 0]), 27);
+    assert_eq!(told(&regions, &[1, 2]), 27);
+    let falling = [(4, 4, 1), (1, 3, 1), (2, 3, 1)];
+    assert_eq!(told(&falling, &[2, 1]), 27);
+    assert_eq!(told(&falling, &[2, 2]), 26);
+    let twice = [(1, 3, 1), (4, 4, 1), (1, 3, 1)];
+    assert_eq!(told(&twice, &[2, 1]), 27);
+    assert_eq!(told(&twice, &[2]), 26);
+    // no other call takes the one file for the other
+    let file = level_file(&eight_peptides());
+    assert_eq!(compare::check(&file), 1);
+    assert_eq!(compare::to_levels(&file, 500), 1);
+    assert_eq!(compare::from_levels(&file_of(&eight_peptides()), 500), 1);
 }
 
 #[test]
@@ -344,6 +374,8 @@ fn damaged_files() {
             &seen,
             compare::hybrid(&file, &path, &p_values, 50_000, m + 1),
         );
+        note(&seen, compare::to_levels(&file, 2000));
+        assert_eq!(compare::from_levels(&file, 2000), 1);
         note(&seen, compare::same(&file, &whole).0);
         note(&seen, compare::same(&whole, &file).0);
         note(&seen, compare::same(&eight, &file).0);
@@ -405,6 +437,7 @@ fn damaged_inputs() {
             compare::bounds_list(&file, &list, count as u16, tally, room),
         );
         let room = (file.len() + 1).saturating_sub(random.below(3));
+        note(&seen, compare::to_levels(&file, room + 128));
         note(&seen, compare::reduce(&file, room));
         let mut p_values = random.p_values(m, 1, 2);
         match random.below(6) {
@@ -450,5 +483,6 @@ fn random_bytes() {
         compare::bounds_list(&file, &[1, 0, 1], 3, 0, 3);
         compare::bounds_from_p(&file, &[5, 0, 1_000_000], DEVIATION_SQUARED, 130);
         compare::hybrid(&file, &[1, 2], &[5, 0, 1_000_000], 50_000, 3);
+        compare::to_levels(&file, 250);
     });
 }

@@ -3,13 +3,13 @@
 
 use phf_tests::compare;
 use phf_tests::families::{
-    all_but_one_empty, binary_tree_on, eight_peptides, file, random_family, Bounds,
+    all_but_one_empty, binary_tree_on, eight_peptides, file, listed, random_family, Bounds,
     DEVIATION_SQUARED, EIGHT_P_VALUES,
 };
-use phf_tests::guarded::{self, curve_of, hybrid_of, reduced};
+use phf_tests::guarded::{self, by_leaf, by_level, curve_of, hybrid_of, reduced};
 use phf_tests::phf;
 use phf_tests::random::Random;
-use phf_tests::reference::{file_of, pieces, Family, Piece};
+use phf_tests::reference::{file_of, level_file_of, pieces, Family, Piece};
 
 /// The bound of all peptides, and the taken bytes.
 fn bound_of_all(file: &[u8]) -> (u16, Vec<u8>) {
@@ -48,6 +48,8 @@ fn all_calls(file: &[u8]) {
     for level in [1, 200, 50_000] {
         assert_eq!(compare::hybrid(file, &path, &p_values, level, m + 1), 0);
     }
+    assert_eq!(compare::to_levels(file, file.len() + 128), 0);
+    assert_eq!(compare::from_levels(&by_level(file), file.len()), 0);
 }
 
 #[test]
@@ -303,6 +305,43 @@ fn crossing_at_an_empty_leaf() {
         compare::check(&file(&[1, 0, 1], &[(1, 2, 1), (3, 3, 1)])),
         0
     );
+}
+
+/// Levels go by leaf numbers too: (2,5) and (3,4) have the same peptides as (1,6), and each has one region more around it; around the
+/// regions over empty leaves are those around their leaves.
+#[test]
+fn levels_over_empty_leaves() {
+    let lengths = [0, 0, 2, 0, 0, 0];
+    let regions = [
+        (1, 6, 6),
+        (1, 1, 5),
+        (2, 5, 4),
+        (2, 2, 3),
+        (3, 4, 2),
+        (4, 4, 1),
+        (6, 6, 0),
+    ];
+    let leveled = [
+        (1, 6, 6),
+        (1, 1, 5),
+        (2, 5, 4),
+        (6, 6, 0),
+        (2, 2, 3),
+        (3, 4, 2),
+        (4, 4, 1),
+    ];
+    let plain = file(&lengths, &regions);
+    all_calls(&plain);
+    let expected = level_file_of(&listed(&lengths, &leveled, &[1, 3, 2, 1]));
+    assert_eq!(by_level(&plain), expected);
+    assert_eq!(by_leaf(&expected), plain);
+    // beside each other at an empty leaf, and crossing there
+    let told = |regions: &[(u16, u16, u16)]| {
+        let file = level_file_of(&listed(&[1, 0, 1], regions, &[2]));
+        compare::from_levels(&file, file.len() - 128)
+    };
+    assert_eq!(told(&[(1, 2, 1), (3, 3, 1)]), 0);
+    assert_eq!(told(&[(1, 2, 1), (2, 3, 1)]), 9);
 }
 
 /// What the random families of the other tests have to be, some of them at least.

@@ -3,7 +3,8 @@
 //! implementation. No proof says what is read or written, so this is what holds the program to it.
 
 use phf_tests::families::{
-    all_but_one_empty, binary_tree, chain, eight_peptides, family, file, random_family, Bounds,
+    all_but_one_empty, binary_tree, chain, eight_peptides, family, file, level_file, random_family,
+    Bounds,
 };
 use phf_tests::programs;
 use phf_tests::random::{cases, Random};
@@ -305,6 +306,7 @@ fn refused_families() {
     };
     refused("short", &eight[..15], 1);
     refused("torn", &eight[..40], 5);
+    refused("by-level", &level_file(&eight_peptides()), 1);
     refused("peptides", &file(&[4097], &[]), 2);
     refused("leaves", &file(&all_but_one_empty(4097, 1, 1), &[]), 3);
     refused("regions", &file(&[1], &[(1, 1, 1), (1, 1, 0)]), 4);

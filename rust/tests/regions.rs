@@ -2,8 +2,8 @@
 //! gets has to have the same ones.
 
 use phf_tests::families::{
-    all_but_one_empty, binary_tree, chain, damage, eight_peptides, file, random_family, Bounds,
-    DAMAGES,
+    all_but_one_empty, binary_tree, chain, damage, eight_peptides, file, level_file, random_family,
+    Bounds, DAMAGES,
 };
 use phf_tests::guarded;
 use phf_tests::phf;
@@ -94,6 +94,7 @@ fn refused_files() {
     assert!(part("empty", &[]).is_empty());
     assert!(part("short", &eight[..15]).is_empty());
     assert!(part("torn", &eight[..40]).is_empty());
+    assert!(part("by-level", &level_file(&eight_peptides())).is_empty());
     assert!(part("peptides", &file(&[4097], &[(1, 1, 1)])).is_empty());
     assert!(part("crossing", &file(&[1; 3], &[(1, 2, 1), (2, 3, 1)])).is_empty());
     assert!(part("deep", &file_of(&chain(65, 65, 1))).is_empty());

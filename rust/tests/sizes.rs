@@ -2,8 +2,8 @@
 
 use phf_tests::compare;
 use phf_tests::families::{
-    all_but_one_empty, binary_tree, binary_tree_on, chain, deepest_tree, random_family, towers,
-    Bounds, DEVIATION_SQUARED,
+    all_but_one_empty, binary_tree, binary_tree_on, chain, deepest_tree, level_file, random_family,
+    towers, Bounds, DEVIATION_SQUARED,
 };
 use phf_tests::random::{cases, Random};
 use phf_tests::reference::{file_of, Family};
@@ -47,6 +47,9 @@ fn all_calls(random: &mut Random, family: &Family) {
         compare::hybrid(&file, &path, &p_values, level as u32, room),
         0
     );
+    let room = file.len() + random.below(3);
+    assert_eq!(compare::to_levels(&file, room + 128), 0);
+    assert_eq!(compare::from_levels(&level_file(family), room), 0);
 }
 
 #[test]

@@ -2,12 +2,12 @@
 //! not, and the process ends.
 
 use phf_tests::families::{
-    all_but_one_empty, binary_tree, binary_tree_on, chain, deepest_tree, eight_peptides, towers,
-    Bounds,
+    all_but_one_empty, binary_tree, binary_tree_on, by_level, chain, deepest_tree, eight_peptides,
+    listed, towers, Bounds,
 };
 use phf_tests::phf;
 use phf_tests::random::Random;
-use phf_tests::reference::{file_of, Family, Region};
+use phf_tests::reference::{file_of, level_file_of, Family, Region};
 use phf_tests::stack::{every_call, Stack};
 use std::os::unix::process::ExitStatusExt;
 use std::process::Command;
@@ -58,7 +58,7 @@ fn on_its_stack(name: &str, mut call: impl FnMut() -> u16) -> u16 {
     Stack::new(stated).run(&mut call)
 }
 
-/// Declined calls need no more, here by the causes that are found last: 10 and, of a comparison, 110; 13; 14, 15 and 16; 20 to 25.
+/// Declined calls need no more, here by the causes that are found last: 10 and, of a comparison, 110; 13; 14, 15 and 16; 20 to 27.
 #[test]
 fn declined_calls_on_the_same_stack() {
     let good = file_of(&deepest_tree(&mut Random::new(11), Bounds::Mixed));
@@ -146,6 +146,34 @@ fn declined_calls_on_the_same_stack() {
         let number = on_its_stack("phf_same", || phf::same(first, second).number);
         assert_eq!(number, expected);
     }
+    let mut out = vec![0; 57482];
+    for (file, room, expected) in [(&deep, 57482, 10), (&good, good.len() + 127, 16)] {
+        let number = on_its_stack("phf_to_levels", || {
+            phf::to_levels(file, &mut out[..room]).number
+        });
+        assert_eq!(number, expected);
+    }
+    let right = by_level(&deepest_tree(&mut Random::new(11), Bounds::Mixed));
+    let mut counted = right.clone();
+    counted.counts[63] += 1;
+    let mut swapped = right.clone();
+    swapped.family.regions.swap(8189, 8190);
+    let nested: Vec<(u16, u16, u16)> = (1..=4096).map(|last| (1, last, 1)).collect();
+    let nested = listed(&[1; 4096], &nested, &[4096]);
+    let equal = listed(&[1; 4096], &[(1, 4096, 1); 8191], &[8191]);
+    for (given, room, expected) in [
+        (&nested, 57354, 10),
+        (&right, 57353, 16),
+        (&counted, 57354, 26),
+        (&swapped, 57354, 27),
+        (&equal, 57354, 27),
+    ] {
+        let file = level_file_of(given);
+        let number = on_its_stack("phf_from_levels", || {
+            phf::from_levels(&file, &mut out[..room]).number
+        });
+        assert_eq!(number, expected);
+    }
 }
 
 /// The sizes stand in the header, one line for each kind of call, by the rule that it gives: what the call has used here and 1 KB,
@@ -155,7 +183,7 @@ fn the_header_states_what_the_calls_use() {
     let header = include_str!("../../include/phf.h");
     let (_, table) = header.split_once(" * STACK.").unwrap();
     let (table, _) = table.split_once("\n *\n").unwrap();
-    let mut most = [0; 13];
+    let mut most = [0; 15];
     for family in families() {
         let path = Random::new(10).order(family.peptides as usize);
         let file = file_of(&family);

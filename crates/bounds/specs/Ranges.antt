@@ -6,6 +6,8 @@ use mathlib.Core.Logic.{_⊎_}
 use mathlib.Core.Path.{_≡_}
 use lib.Dec.{leb, ltb}
 use Rattle.reader.specs.Family.{Region, Family, region, peptidesUpTo}
+pub use Rattle.reader.specs.Lists.{In}
+unfoldable pub use Rattle.reader.specs.Lists.{those}
 
 -- The peptides low + 1 to high, with the bound z. How it lies to another range is judged on its key, from and to:
 -- of a region its leaf numbers, so that a leaf without a peptide is no special case.
@@ -44,20 +46,10 @@ card (suc m) X = card m X + cond (X (suc m)) 1 0
 unfoldable pub count : ℕ → Peptides → Range → ℕ
 count m X r = card m (λ p. has r p && X p)
 
--- x is an element of the list
-abbrev pub In : {A : Type 0} → A → List A → Type 0
-In x [] = ⊥
-In x (y ∷ L) = (x ≡ y) ⊎ In x L
-
 -- some element passes the test
 unfoldable pub some : {A : Type 0} → (A → Bool) → List A → Bool
 some t [] = false
 some t (x ∷ xs) = t x || some t xs
-
--- the elements that pass the test
-unfoldable pub those : {A : Type 0} → (A → Bool) → List A → List A
-those t [] = []
-those t (x ∷ xs) = cond (t x) (x ∷ those t xs) (those t xs)
 
 unfoldable pub sumOver : {A : Type 0} → (A → ℕ) → List A → ℕ
 sumOver f [] = 0

@@ -1,9 +1,9 @@
 // The greedy walk along a path: a peptide is marked unless a region that holds it already has z marked peptides.
 // The regions that hold a leaf are the innermost one and those around it, so a step costs the way to the leaf and the depth
 // of the nesting.
+use leaves::leaf_of;
 use reader::family::Leaf;
 use reader::family::Peptide;
-use reader::family::leaf_of;
 use reader::family::region_count;
 use reader::family::region_of;
 ghost use mathlib.Core.Path.{_≡_};

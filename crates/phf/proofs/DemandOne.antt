@@ -1,9 +1,9 @@
 -- Demand 1: every call with bad input gets the first cause that holds, with its number, and every lent list is unchanged; with no cause
 -- it does its work. Over all inputs, and over what each call answers and leaves by its promise. A slice that is lent to be read cannot
 -- be written, so only those that are lent for outputs are named; that every call ends is part of the proof of each function.
--- It speaks of every call that has causes. Those of reader that answer, or leave, a total definition of any bytes (`leaf_of`,
--- `leaf_length`, `peptides_between`, `region_of`, the counts, `number_at`, `put_number`, `same_bytes`, `smaller`) have none, nor has
--- `passes` of volcano; the program's text has a theorem of its own (`program-theorem`).
+-- It speaks of every call that has causes. Those of reader that answer, or leave, a total definition of any bytes (`leaf_length`,
+-- `peptides_between`, `region_of`, the counts, `number_at`, `put_number`, `same_bytes`, `smaller`) have none, nor have `leaf_of` of
+-- leaves and `passes` of volcano; the program's text has a theorem of its own (`program-theorem`).
 use Prim.Native.Nat.{ℕ, _+_, _*_}
 use mathlib.Core.Bool.{cond}
 use mathlib.Core.List.{List, [], _∷_}
@@ -42,14 +42,20 @@ use Rattle.reduction.specs.declared.ReducedFile.{ReducedFile}
 use Rattle.reduction.specs.declared.ReducedFile.the-variants as made
 use Rattle.reduction.specs.declared.Compared.{Compared}
 use Rattle.reduction.specs.declared.Compared.the-variants as compared
-use Rattle.pvalues.specs.Hybrid.{hybridValues}
-use Rattle.pvalues.specs.Calls.{roomAndPValues, fromPInputs, fromPCauses, fileFromP, FromPAnswers, FromPWrites, hybridInputs, hybridCauses, HybridAnswers, HybridWrites, HybridDeclines}
+use Rattle.pvalues.specs.Calls.{roomAndPValues, fromPInputs, fromPCauses, fileFromP, FromPAnswers, FromPWrites}
+use Rattle.hybrid.specs.Hybrid.{hybridValues}
+use Rattle.hybrid.specs.Calls.{hybridInputs, hybridCauses, HybridAnswers, HybridWrites, HybridDeclines}
+use Rattle.levels.specs.Levels.{levelFileOf, familyFileOf}
+use Rattle.levels.specs.Causes.{levelHeaderCauses, nestingCauses, formCauses, placeCauses}
+use Rattle.levels.specs.Calls.{reportConverted, toLevelsCauses, fromLevelsCauses, ToLevelsAnswers, ToLevelsWrites, FromLevelsAnswers, FromLevelsWrites}
+use Rattle.levels.specs.declared.Converted.{Converted}
+use Rattle.levels.specs.declared.Converted.the-variants as converted
 use Rattle.volcano.specs.Rules.{chosen}
 use Rattle.volcano.specs.Calls.{chooseCauses, ChooseAnswers, ChooseWrites}
 use Rattle.volcano.specs.declared.Rule.{Rule}
 use Rattle.volcano.specs.declared.Rule.the-variants.{AtMost, Between, Volcano}
-use Rattle.phf.specs.Fields.{valueAt, valueWith, checkedFields, partFields, boundedFields, listedFields, curvedFields, cuttingFields, reducedFields, comparedFields}
-use Rattle.phf.specs.Calls.{PhfCheckAnswers, PhfRegionsAnswers, PhfBoundAnswers, PhfListAnswers, PhfCurveAnswers, PhfCutAnswers, PhfReduceAnswers, PhfSameAnswers, PhfHybridAnswers}
+use Rattle.phf.specs.Fields.{valueAt, valueWith, checkedFields, partFields, boundedFields, listedFields, curvedFields, cuttingFields, reducedFields, comparedFields, convertedFields}
+use Rattle.phf.specs.Calls.{PhfCheckAnswers, PhfRegionsAnswers, PhfBoundAnswers, PhfListAnswers, PhfCurveAnswers, PhfCutAnswers, PhfReduceAnswers, PhfSameAnswers, PhfHybridAnswers, PhfToLevelsAnswers, PhfFromLevelsAnswers}
 use Rattle.phf.specs.Obeys.{numbers, NoZero, NoneHolds, FirstHolds, Obeys}
 use Rattle.phf.specs.declared.PhfChecked.{PhfChecked}
 use Rattle.phf.specs.declared.PhfPart.{PhfPart}
@@ -59,9 +65,10 @@ use Rattle.phf.specs.declared.PhfCurved.{PhfCurved}
 use Rattle.phf.specs.declared.PhfCutting.{PhfCutting}
 use Rattle.phf.specs.declared.PhfReduced.{PhfReduced}
 use Rattle.phf.specs.declared.PhfCompared.{PhfCompared}
+use Rattle.phf.specs.declared.PhfConverted.{PhfConverted}
 use Rattle.phf.proofs.FieldLaws.{part-fields, no-part-fields, curve-refusal-fields, cut-refusal-fields}
 use Rattle.phf.proofs.Obeying.{first-is, numbered-if, none-is, Lent, nothing-lent, lent-too, lent-one, made-obeys, number-obeys, remade-obeys, path-obeys, charged-obeys}
-use Rattle.phf.proofs.LibraryAnswers.{checkedOf, boundedOf, reducedOf, comparedOf, checked-remade, bounded-remade, reduced-remade, compared-remade, yes-or-no, curvedOf, cutFoundOf, curvedBy, cutFoundBy, curve-told, cut-told, curve-refusal, cut-refusal}
+use Rattle.phf.proofs.LibraryAnswers.{checkedOf, boundedOf, reducedOf, comparedOf, convertedOf, checked-remade, bounded-remade, reduced-remade, compared-remade, converted-remade, yes-or-no, curvedOf, cutFoundOf, curvedBy, cutFoundBy, curve-told, cut-told, curve-refusal, cut-refusal}
 
 pub record DemandOne : Type 0 where
   -- The first cause of a list has the number n exactly when a cause with this number holds and none before it. In a list that has no
@@ -80,6 +87,8 @@ pub record DemandOne : Type 0 where
   pub same-tries : (first second : List ℕ) → numbers (compareCauses first second) ≡ 1 ∷ 2 ∷ 3 ∷ 4 ∷ 5 ∷ 6 ∷ 7 ∷ 8 ∷ 9 ∷ 10 ∷ 101 ∷ 102 ∷ 103 ∷ 104 ∷ 105 ∷ 106 ∷ 107 ∷ 108 ∷ 109 ∷ 110 ∷ []
   pub bounds-from-p-tries : (file ps : List ℕ) (deviationSquared room : ℕ) → numbers (fromPCauses file ps deviationSquared room) ≡ 1 ∷ 2 ∷ 3 ∷ 4 ∷ 5 ∷ 6 ∷ 7 ∷ 8 ∷ 9 ∷ 10 ∷ 16 ∷ 20 ∷ 21 ∷ 22 ∷ []
   pub hybrid-tries : (file path ps : List ℕ) (level room : ℕ) → numbers (hybridCauses file path ps level room) ≡ 1 ∷ 2 ∷ 3 ∷ 4 ∷ 5 ∷ 6 ∷ 7 ∷ 8 ∷ 9 ∷ 10 ∷ 11 ∷ 12 ∷ 13 ∷ 16 ∷ 20 ∷ 21 ∷ 23 ∷ []
+  pub to-levels-tries : (file : List ℕ) (room : ℕ) → numbers (toLevelsCauses file room) ≡ 1 ∷ 2 ∷ 3 ∷ 4 ∷ 5 ∷ 6 ∷ 7 ∷ 8 ∷ 9 ∷ 10 ∷ 16 ∷ []
+  pub from-levels-tries : (file : List ℕ) (room : ℕ) → numbers (fromLevelsCauses file room) ≡ 1 ∷ 2 ∷ 3 ∷ 4 ∷ 5 ∷ 6 ∷ 7 ∷ 9 ∷ 10 ∷ 16 ∷ 26 ∷ 27 ∷ []
   -- The calls of C. For each, after its promises: its causes; its answer, the refusal with the number n, the answer of its work; its lent
   -- lists after the call, before it, and with its work.
   pub phf-check : (file : List ℕ) (r : PhfChecked) → PhfCheckAnswers file r
@@ -122,6 +131,14 @@ pub record DemandOne : Type 0 where
       → Obeys (hybridCauses file path ps level (length values))
       r (λ n. record { number = n; place = cond (eqb n 13) (firstRepeat path) 0 }) (record { number = 0; place = 0 })
       (new ∷ []) (values ∷ []) (atStart (hybridValues (familyOf file) ps level path) values ∷ [])
+  pub phf-to-levels : (file out new : List ℕ) (r : PhfConverted) → PhfToLevelsAnswers file out r → ToLevelsWrites file out new
+      → Obeys (toLevelsCauses file (length out))
+      r (λ n. record { number = n; length = 0 }) (record { number = 0; length = length (levelFileOf (familyOf file)) })
+      (new ∷ []) (out ∷ []) (atStart (levelFileOf (familyOf file)) out ∷ [])
+  pub phf-from-levels : (file out new : List ℕ) (r : PhfConverted) → PhfFromLevelsAnswers file out r → FromLevelsWrites file out new
+      → Obeys (fromLevelsCauses file (length out))
+      r (λ n. record { number = n; length = 0 }) (record { number = 0; length = length (familyFileOf file) })
+      (new ∷ []) (out ∷ []) (atStart (familyFileOf file) out ∷ [])
   -- The calls of the libraries, in the same order.
   pub check : (file : List ℕ) (r : Checked) → CheckAnswers file r
       → Obeys (fileCauses file) r told.Refused (told.Family (familyOf file .peptides) (leaves (familyOf file)) (regionCount (familyOf file))) [] [] []
@@ -165,6 +182,14 @@ pub record DemandOne : Type 0 where
       → Obeys (hybridCauses file path ps level (length values))
       r (λ n. cond (eqb n 13) (curved.Repeated (firstRepeat path)) (curved.Refused n)) curved.Written
       (new ∷ []) (values ∷ []) (atStart (hybridValues (familyOf file) ps level path) values ∷ [])
+  pub to-levels : (file out new : List ℕ) (r : Converted) → ToLevelsAnswers file out r → ToLevelsWrites file out new
+      → Obeys (toLevelsCauses file (length out))
+      r converted.Refused (converted.Written (length (levelFileOf (familyOf file))))
+      (new ∷ []) (out ∷ []) (atStart (levelFileOf (familyOf file)) out ∷ [])
+  pub from-levels : (file out new : List ℕ) (r : Converted) → FromLevelsAnswers file out r → FromLevelsWrites file out new
+      → Obeys (fromLevelsCauses file (length out))
+      r converted.Refused (converted.Written (length (familyFileOf file)))
+      (new ∷ []) (out ∷ []) (atStart (familyFileOf file) out ∷ [])
   -- The place that comes with 13 is the first one of the path whose peptide stands earlier too; no other number is.
   pub curve-place : (file path values marks : List ℕ) → firstCause (curveCauses file path values marks) ≡ 13 → IsFirstRepeat path (firstRepeat path)
   pub cut-place : (file path : List ℕ) (a b : ℕ) → firstCause (cutCauses file path a b) ≡ 13 → IsFirstRepeat path (firstRepeat path)
@@ -245,7 +270,7 @@ module _ (place fileAt : ℕ × ℕ) (part file : List ℕ) (h : RegionsGiven pl
   part-of-refused r = (h .bytes ∙ part-refused file r, h .part .block, omega (arith, h .part .place, start-refused file r))
 
 pub demand-one : DemandOne
-unfolding headerCauses familyCauses fileCauses parentsCauses causesWithRoom listInputs listCauses pathCauses inputCauses curveCauses cutCauses reduceCauses compareCauses chooseCauses roomAndPValues fromPInputs fromPCauses hybridInputs hybridCauses checked checkedFields boundedFields listedFields curvedFields cuttingFields reducedFields comparedFields valueAt valueWith reducedCounts comparison checkedOf boundedOf reducedOf comparedOf curvedOf cutFoundOf
+unfolding headerCauses familyCauses fileCauses parentsCauses causesWithRoom listInputs listCauses pathCauses inputCauses curveCauses cutCauses reduceCauses compareCauses chooseCauses roomAndPValues fromPInputs fromPCauses hybridInputs hybridCauses toLevelsCauses fromLevelsCauses levelHeaderCauses nestingCauses formCauses placeCauses checked checkedFields boundedFields listedFields curvedFields cuttingFields reducedFields comparedFields convertedFields valueAt valueWith reducedCounts comparison checkedOf boundedOf reducedOf comparedOf convertedOf curvedOf cutFoundOf
 demand-one =
     record {
       first-cause = first-is;
@@ -261,6 +286,8 @@ demand-one =
       same-tries = λ first second. refl;
       bounds-from-p-tries = λ file ps deviationSquared room. refl;
       hybrid-tries = λ file path ps level room. refl;
+      to-levels-tries = λ file room. refl;
+      from-levels-tries = λ file room. refl;
       phf-check = λ file r h. made-obeys (fileCauses file) _ checkedFields r [] [] [] h (nothing-lent (fileCauses file));
       phf-bound = λ file selection taken new r h w. made-obeys (selectionCauses file selection taken) _ boundedFields r (new ∷ []) _ _ h (lent-one _ _ _ _ w);
       phf-bounds-list = λ file selections count tally values new r h w. charged-obeys (listCauses file selections count tally (length values)) _ tally listedFields r (new ∷ []) _ _ h (lent-one _ _ _ _ w);
@@ -273,6 +300,8 @@ demand-one =
       phf-same = λ first second r h. made-obeys (compareCauses first second) _ comparedFields r [] [] [] h (nothing-lent _);
       phf-bounds-from-p = from-p-obeys;
       phf-hybrid = λ file path ps level values new r h w. path-obeys _ path [] curvedFields _ (λ n some. curve-refusal-fields path n) r _ _ _ h (lent-one _ _ values new w);
+      phf-to-levels = λ file out new r h w. made-obeys (toLevelsCauses file (length out)) _ convertedFields r (new ∷ []) _ _ h (lent-one _ _ _ _ w);
+      phf-from-levels = λ file out new r h w. made-obeys (fromLevelsCauses file (length out)) _ convertedFields r (new ∷ []) _ _ h (lent-one _ _ _ _ w);
       check = λ file r h. remade-obeys (fileCauses file) _ report checkedOf checked-remade r [] [] [] h (nothing-lent (fileCauses file));
       parents = λ file out new r h w. remade-obeys (parentsCauses file out) _ report checkedOf checked-remade r (new ∷ []) _ _ h (lent-one _ _ _ _ w);
       bound = λ file selection taken new r h w. remade-obeys (selectionCauses file selection taken) _ reportBound boundedOf bounded-remade r (new ∷ []) _ _ h (lent-one _ _ _ _ w);
@@ -285,6 +314,8 @@ demand-one =
       same = λ first second r h. rw (← yes-or-no (sameList (reducedFile first) (reducedFile second))) (remade-obeys (compareCauses first second) _ reportCompared comparedOf compared-remade r [] [] [] h (nothing-lent _));
       bounds-from-p = from-p-obeys;
       hybrid = λ file path ps level values new r h d w. path-obeys _ path [] curvedBy _ (curve-refusal path) r _ _ _ (curve-told _ path r h d) (lent-one _ _ values new w);
+      to-levels = λ file out new r h w. remade-obeys (toLevelsCauses file (length out)) _ reportConverted convertedOf converted-remade r (new ∷ []) _ _ h (lent-one _ _ _ _ w);
+      from-levels = λ file out new r h w. remade-obeys (fromLevelsCauses file (length out)) _ reportConverted convertedOf converted-remade r (new ∷ []) _ _ h (lent-one _ _ _ _ w);
       curve-place = λ file path values marks. place-with-13 file path _ (omega arith);
       cut-place = λ file path a b. place-with-13 file path _ (omega arith);
       hybrid-place = λ file path ps level room. place-with-13 file path _ (omega arith);

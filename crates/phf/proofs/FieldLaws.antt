@@ -27,9 +27,12 @@ use Rattle.reduction.specs.declared.ReducedFile.the-variants as made
 use Rattle.reduction.specs.declared.Compared.{Compared}
 use Rattle.reduction.specs.declared.Compared.the-variants as compared
 use Rattle.reduction.specs.Calls.{reportReduced, reportCompared}
+use Rattle.levels.specs.declared.Converted.{Converted}
+use Rattle.levels.specs.declared.Converted.the-variants as converted
+use Rattle.levels.specs.Calls.{reportConverted}
 use Rattle.bounds.specs.Curves.{firstRepeat}
 use Rattle.bounds.specs.Calls.{reportBound, reportCurve, reportCut, pathRefusal}
-use Rattle.phf.specs.Fields.{valueAt, valueWith, checkedFields, partFields, boundedFields, curvedFields, cuttingFields, reducedFields, comparedFields}
+use Rattle.phf.specs.Fields.{valueAt, valueWith, checkedFields, partFields, boundedFields, curvedFields, cuttingFields, reducedFields, comparedFields, convertedFields}
 
 either-zero : (b : Bool) → _≡_ {A = ℕ} (cond b 0 0) 0
 either-zero true = refl
@@ -129,3 +132,13 @@ compared-different r e = rw e
 pub compared-refused : (r : Compared) (number : ℕ) → r ≡ compared.Refused number → record { number = number; same = 0 } ≡ comparedFields (reportCompared r)
 unfolding comparedFields valueAt reportCompared
 compared-refused r number e = rw e
+
+-- The conversions.
+
+pub conversion-written : (r : Converted) (l : ℕ) → r ≡ converted.Written l → record { number = 0; length = l } ≡ convertedFields (reportConverted r)
+unfolding convertedFields valueAt reportConverted
+conversion-written r l e = rw e
+
+pub conversion-refused : (r : Converted) (number : ℕ) → r ≡ converted.Refused number → record { number = number; length = 0 } ≡ convertedFields (reportConverted r)
+unfolding convertedFields valueAt reportConverted
+conversion-refused r number e = rw e

@@ -25,6 +25,9 @@ use Rattle.reduction.specs.declared.ReducedFile.{ReducedFile}
 use Rattle.reduction.specs.declared.ReducedFile.the-variants as made
 use Rattle.reduction.specs.declared.Compared.{Compared}
 use Rattle.reduction.specs.declared.Compared.the-variants as compared
+use Rattle.levels.specs.Calls.{reportConverted}
+use Rattle.levels.specs.declared.Converted.{Converted}
+use Rattle.levels.specs.declared.Converted.the-variants as converted
 use Rattle.bounds.proofs.Calls.Answering.{path-number}
 
 -- An answer without a place is made again of its number and its values.
@@ -44,6 +47,10 @@ reducedOf n (l ∷ vs) = made.Written l (getD vs 0 0)
 unfoldable pub comparedOf : ℕ → List ℕ → Compared
 comparedOf n [] = compared.Refused n
 comparedOf n (v ∷ vs) = cond (eqb v 1) compared.Same compared.Different
+
+unfoldable pub convertedOf : ℕ → List ℕ → Converted
+convertedOf n [] = converted.Refused n
+convertedOf n (l ∷ vs) = converted.Written l
 
 pub checked-remade : (r : Checked) → r ≡ checkedOf (report r .number) (report r .values)
 unfolding report checkedOf
@@ -65,6 +72,11 @@ unfolding reportCompared comparedOf
 compared-remade compared.Same = refl
 compared-remade compared.Different = refl
 compared-remade (compared.Refused n) = refl
+
+pub converted-remade : (r : Converted) → r ≡ convertedOf (reportConverted r .number) (reportConverted r .values)
+unfolding reportConverted convertedOf
+converted-remade (converted.Written l) = refl
+converted-remade (converted.Refused n) = refl
 
 pub yes-or-no : (b : Bool) → comparedOf 0 (cond b 1 0 ∷ []) ≡ cond b compared.Same compared.Different
 unfolding comparedOf

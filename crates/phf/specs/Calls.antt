@@ -1,6 +1,6 @@
 -- What the calls of the C interface promise, defined from their inputs. What they leave in lent lists is promised in the words of
 -- the libraries (`TakenWrites`, `ListWrites`, `ChooseWrites`, `CurveValuesWrites`, `CurveMarksWrites`, `ReduceWrites`, `FromPWrites`,
--- `HybridWrites`), and so are the answers of a choice and of bounds from p-values (`ChooseAnswers`, `FromPAnswers`), which are a number
+-- `HybridWrites`, `ToLevelsWrites`, `FromLevelsWrites`), and so are the answers of a choice and of bounds from p-values (`ChooseAnswers`, `FromPAnswers`), which are a number
 -- there too. The theorem of demand 1 (`DemandOne`) rests on these promises.
 use Prim.Native.Nat.{ℕ}
 use mathlib.Core.List.{List, [], _∷_}
@@ -13,8 +13,10 @@ use Rattle.bounds.specs.Tally.{chargeOf}
 use Rattle.bounds.specs.Curves.{cutOf}
 use Rattle.bounds.specs.Calls.{selectionCauses, listCauses, listed, curveCauses, cutCauses, pathAnswer}
 use Rattle.reduction.specs.Calls.{reduceCauses, reducedCounts, compareCauses, comparison}
-use Rattle.pvalues.specs.Calls.{hybridCauses}
-use Rattle.phf.specs.Fields.{checkedFields, partFields, boundedFields, listedFields, curvedFields, cuttingFields, reducedFields, comparedFields}
+use Rattle.hybrid.specs.Calls.{hybridCauses}
+use Rattle.levels.specs.Levels.{levelFileOf, familyFileOf}
+use Rattle.levels.specs.Calls.{toLevelsCauses, fromLevelsCauses}
+use Rattle.phf.specs.Fields.{checkedFields, partFields, boundedFields, listedFields, curvedFields, cuttingFields, reducedFields, comparedFields, convertedFields}
 use Rattle.phf.specs.declared.PhfChecked.{PhfChecked}
 use Rattle.phf.specs.declared.PhfPart.{PhfPart}
 use Rattle.phf.specs.declared.PhfBounded.{PhfBounded}
@@ -23,6 +25,7 @@ use Rattle.phf.specs.declared.PhfCurved.{PhfCurved}
 use Rattle.phf.specs.declared.PhfCutting.{PhfCutting}
 use Rattle.phf.specs.declared.PhfReduced.{PhfReduced}
 use Rattle.phf.specs.declared.PhfCompared.{PhfCompared}
+use Rattle.phf.specs.declared.PhfConverted.{PhfConverted}
 
 -- the answer r of each call
 
@@ -57,3 +60,9 @@ PhfSameAnswers first second r = r ≡ comparedFields (answer (compareCauses firs
 
 abbrev pub PhfHybridAnswers : List ℕ → List ℕ → List ℕ → ℕ → List ℕ → PhfCurved → Type 0
 PhfHybridAnswers file path ps level values r = r ≡ curvedFields (pathAnswer (hybridCauses file path ps level (length values)) path [])
+
+abbrev pub PhfToLevelsAnswers : List ℕ → List ℕ → PhfConverted → Type 0
+PhfToLevelsAnswers file out r = r ≡ convertedFields (answer (toLevelsCauses file (length out)) (length (levelFileOf (familyOf file)) ∷ []))
+
+abbrev pub PhfFromLevelsAnswers : List ℕ → List ℕ → PhfConverted → Type 0
+PhfFromLevelsAnswers file out r = r ≡ convertedFields (answer (fromLevelsCauses file (length out)) (length (familyFileOf file) ∷ []))

@@ -17,6 +17,7 @@ use Rattle.phf.specs.declared.PhfCurved.{PhfCurved}
 use Rattle.phf.specs.declared.PhfCutting.{PhfCutting}
 use Rattle.phf.specs.declared.PhfReduced.{PhfReduced}
 use Rattle.phf.specs.declared.PhfCompared.{PhfCompared}
+use Rattle.phf.specs.declared.PhfConverted.{PhfConverted}
 
 -- the i-th value of an answer, counted from 0; 0 if it has none there
 unfoldable pub valueAt : Report → ℕ → ℕ
@@ -48,6 +49,9 @@ reducedFields r = record { number = r .number; length = valueAt r 0; regions = v
 
 unfoldable pub comparedFields : Report → PhfCompared
 comparedFields r = record { number = r .number; same = valueAt r 0 }
+
+unfoldable pub convertedFields : Report → PhfConverted
+convertedFields r = record { number = r .number; length = valueAt r 0 }
 
 unfoldable pub curvedFields : Report → PhfCurved
 curvedFields r = record { number = r .number; place = valueWith 13 r }

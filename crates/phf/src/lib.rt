@@ -5,18 +5,21 @@
 use bounds::Bounded;
 use bounds::Curved;
 use bounds::CutFound;
+use levels::Converted;
 use reader::Checked;
 use reduction::Compared;
 use reduction::ReducedFile;
 use volcano::Rule;
 ghost use mathlib.Core.Path.{_≡_};
 ghost use Rattle.bounds.specs.Calls.{reportCurve, TakenWrites, ListWrites, CurveValuesWrites, CurveMarksWrites};
-ghost use Rattle.pvalues.specs.Calls.{FromPAnswers, FromPWrites, HybridWrites};
+ghost use Rattle.hybrid.specs.Calls.{HybridWrites};
+ghost use Rattle.levels.specs.Calls.{reportConverted, ToLevelsWrites, FromLevelsWrites};
+ghost use Rattle.pvalues.specs.Calls.{FromPAnswers, FromPWrites};
 ghost use Rattle.reduction.specs.Calls.{ReduceWrites};
 ghost use Rattle.volcano.specs.Calls.{ChooseAnswers, ChooseWrites};
 ghost use Rattle.volcano.specs.declared.Rule.the-variants.{AtMost, Between, Volcano};
-ghost use Rattle.phf.specs.Calls.{PhfCheckAnswers, PhfRegionsAnswers, PhfRegionsPlaced, PhfBoundAnswers, PhfListAnswers, PhfCurveAnswers, PhfCutAnswers, PhfReduceAnswers, PhfSameAnswers, PhfHybridAnswers};
-ghost use Rattle.phf.specs.Fields.{curvedFields};
+ghost use Rattle.phf.specs.Calls.{PhfCheckAnswers, PhfRegionsAnswers, PhfRegionsPlaced, PhfBoundAnswers, PhfListAnswers, PhfCurveAnswers, PhfCutAnswers, PhfReduceAnswers, PhfSameAnswers, PhfHybridAnswers, PhfToLevelsAnswers, PhfFromLevelsAnswers};
+ghost use Rattle.phf.specs.Fields.{curvedFields, convertedFields};
 
 #[repr(C)]
 pub struct PhfChecked {
@@ -69,6 +72,12 @@ pub struct PhfReduced {
 pub struct PhfCompared {
     pub number: u16,
     pub same: u16,
+}
+
+#[repr(C)]
+pub struct PhfConverted {
+    pub number: u16,
+    pub length: u16,
 }
 
 // Whether the bytes are an accepted family: m, N and K, or the number of the first cause that holds.
@@ -311,5 +320,33 @@ pub extern "C" fn phf_hybrid(
     ensures { λ r. ⌜ PhfHybridAnswers (now (file .entry)) (now (path .entry)) (now («p_values» .entry)) level (now (values .entry)) r ⌝ }
     ensures { λ _. ⌜ HybridWrites (now (file .entry)) (now (path .entry)) (now («p_values» .entry)) level (now (values .entry)) (now (values .exit)) ⌝ }
 {
-    curved(pvalues::hybrid(file, path, p_values, level, values))
+    curved(hybrid::hybrid(file, path, p_values, level, values))
+}
+
+// The answer of a conversion.
+fn converted(answer: Converted) -> PhfConverted
+    ensures { λ r. ⌜ r ≡ convertedFields (reportConverted answer) ⌝ }
+{
+    match answer {
+        Converted::Written(length) => PhfConverted { number: 0, length },
+        Converted::Refused(number) => PhfConverted { number, length: 0 },
+    }
+}
+
+// Writes the file of a family by level at the start of the output: its length.
+#[no_mangle]
+pub extern "C" fn phf_to_levels(file: &[u8], out: &mut [u8]) -> PhfConverted
+    ensures { λ r. ⌜ PhfToLevelsAnswers (now (file .entry)) (now (out .entry)) r ⌝ }
+    ensures { λ _. ⌜ ToLevelsWrites (now (file .entry)) (now (out .entry)) (now (out .exit)) ⌝ }
+{
+    converted(levels::to_levels(file, out))
+}
+
+// Writes the family file of what a file by level lists at the start of the output: its length.
+#[no_mangle]
+pub extern "C" fn phf_from_levels(file: &[u8], out: &mut [u8]) -> PhfConverted
+    ensures { λ r. ⌜ PhfFromLevelsAnswers (now (file .entry)) (now (out .entry)) r ⌝ }
+    ensures { λ _. ⌜ FromLevelsWrites (now (file .entry)) (now (out .entry)) (now (out .exit)) ⌝ }
+{
+    converted(levels::from_levels(file, out))
 }

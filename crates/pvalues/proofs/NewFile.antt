@@ -13,18 +13,13 @@ use Rattle.reader.specs.Calls.{atStart}
 use Rattle.reader.proofs.Lists.{length-tabulate, getD-tabulate, tabulate-same}
 use Rattle.reader.proofs.First.{writes}
 use Rattle.reader.proofs.Accepting.{accepted-header, whole-length}
-use Rattle.reader.proofs.Files.{length-bytes, file-length}
+use Rattle.reader.proofs.Files.{length-bytes, region-fields-length, file-length}
 use Rattle.reader.proofs.NumberRows.{bytes-join, numbers-none, numbers-join, fields-join}
 use Rattle.bounds.proofs.Theory.Family.{map-tabulate}
 use Rattle.pvalues.specs.FromP.{boundedRegion, familyFromP}
 use Rattle.pvalues.specs.Calls.{fromPCauses, fileFromP, FromPWrites}
 use Rattle.pvalues.specs.Private.Writing.{withBound, withBounds}
 use Rattle.pvalues.specs.Private.Climbing.{BoundsFound}
-
-fields-three : (rs : List Region) → length (regionFields rs) ≡ 3 * length rs
-unfolding regionFields
-fields-three [] = refl
-fields-three (r ∷ rs) = omega (arith, fields-three rs)
 
 -- three numbers, one after the other
 pub three-put : (out one two three : List ℕ) (at a b z : ℕ) → one ≡ withNumbers out at (a ∷ []) → two ≡ withNumbers one (at + 2) (b ∷ []) → three ≡ withNumbers two (at + 4) (z ∷ [])
@@ -97,7 +92,7 @@ module _ (F : Family) (Z : List ℕ) where
       rw (add-one k) (sym (take-suc (withBounds F Z .regions) k noRegion here)) in
       rw (e, a, b)
       (numbers-join base start (firstFields k) (region F k .first ∷ region F k .last ∷ getD Z k 0 ∷ []) at
-      (omega (arith, place, fields-three (take k (withBounds F Z .regions)), length-take-le k (withBounds F Z .regions) (omega arith)))
+      (omega (arith, place, region-fields-length (take k (withBounds F Z .regions)), length-take-le k (withBounds F Z .regions) (omega arith)))
       ∙ ap (withNumbers base start)
       (ap (λ (r : Region). firstFields k ++ regionFields (r ∷ [])) (sym (new-region k h))
       ∙ sym (fields-join (take k (withBounds F Z .regions)) (getD (withBounds F Z .regions) k noRegion ∷ []))
@@ -115,7 +110,7 @@ module _ (F : Family) (Z : List ℕ) where
       e
       ∙ rw (whole, before)
       (placed-after (front F) out (bytesOf (regionFields (G .regions))) start (front-length F ∙ sym offset)
-      (omega (arith, length-bytes (regionFields (G .regions)), fields-three (G .regions), regions-counted)))
+      (omega (arith, length-bytes (regionFields (G .regions)), region-fields-length (G .regions), regions-counted)))
       ∙ ap (λ (l : List ℕ). atStart l out) (ap (λ (l : List ℕ). l ++ bytesOf (regionFields (G .regions))) (sym same-front) ∙ sym (front-file G))
 
   -- the z that were found make the family of the definition

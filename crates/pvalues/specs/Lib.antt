@@ -1,6 +1,5 @@
 -- The definitions that the promises of `pvalues` are written with.
 pub mod FromP
-pub mod Hybrid
 pub mod Calls
 pub mod AcceptedCalls
 pub mod Private

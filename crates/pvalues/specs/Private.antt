@@ -4,4 +4,3 @@ pub mod Lowering
 pub mod Climbing
 pub mod Writing
 pub mod Judging
-pub mod Simes

@@ -1,4 +1,4 @@
-// Causes 20 to 23, and the first cause of a whole call.
+// Causes 20 to 22, and the first cause of a whole call.
 use reader::Checked;
 use reader::family::peptide_count;
 ghost use mathlib.Core.Path.{_≡_};
@@ -9,8 +9,7 @@ ghost use Rattle.reader.specs.Family.{familyOf};
 ghost use Rattle.reader.specs.Causes.{firstCause};
 ghost use Rattle.reader.specs.Calls.{short};
 ghost use Rattle.pvalues.specs.FromP.{cause21};
-ghost use Rattle.pvalues.specs.Hybrid.{cause23};
-ghost use Rattle.pvalues.specs.Calls.{roomAndPValues, fromPInputs, hybridInputs};
+ghost use Rattle.pvalues.specs.Calls.{roomAndPValues, fromPInputs};
 ghost use Rattle.pvalues.specs.Private.Judging.{FromPJudged};
 
 fn over_one(p: u32) -> bool
@@ -33,7 +32,7 @@ fn bad_p_values(p_values: &[u32]) -> bool
 }
 
 // The first of the causes 16, 20 and 21 that holds, or 0; the output has room for so many elements, and so many are needed.
-fn room_and_p_cause(file: &[u8], p_values: &[u32], needed: usize, room: usize) -> u16
+pub fn room_and_p_cause(file: &[u8], p_values: &[u32], needed: usize, room: usize) -> u16
     ensures { λ r. ⌜ r ≡ firstCause (roomAndPValues (short needed room) (familyOf (now (file .entry)) .peptides) (now («p_values» .entry))) ⌝ }
 {
     if room < needed {
@@ -75,31 +74,4 @@ pub(crate) fn from_p_cause(
         } => input_cause(file, p_values, deviation_squared, room),
         Checked::Refused(number) => number,
     }
-}
-
-// The level is 0 or over 1,000,000.
-fn bad_level(level: u32) -> bool
-    ensures { λ r. ⌜ r ≡ cause23 level ⌝ }
-{
-    if level == 0 {
-        return true;
-    }
-    1000000 < level
-}
-
-// The first cause of `hybrid` after those of the file and the path that holds, with so many places for values, or 0.
-pub(crate) fn hybrid_cause(
-    file: &[u8],
-    path: &[u16],
-    p_values: &[u32],
-    level: u32,
-    room: usize,
-) -> u16
-    ensures { λ r. ⌜ r ≡ firstCause (hybridInputs (now (file .entry)) (now (path .entry)) (now («p_values» .entry)) level room) ⌝ }
-{
-    let cause = room_and_p_cause(file, p_values, path.len() + 1, room);
-    if cause != 0 {
-        return cause;
-    }
-    if bad_level(level) { 23 } else { 0 }
 }

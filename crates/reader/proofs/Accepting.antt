@@ -31,7 +31,7 @@ use lib.Dec.{eqb}
 use borrow.Author.Tests.{ne-eqb}
 use Rattle.reader.specs.Bytes.{IsBytes}
 use Rattle.reader.specs.Family as family
-use Rattle.reader.specs.Family.{Family, leaves, regionCount, region, regionAt, familyOf, regionsOffset, totalLength}
+use Rattle.reader.specs.Family.{Family, leaves, regionCount, region, regionAt, familyOf, mark, lengthsOffset, regionsOffset, totalLength}
 use Rattle.reader.specs.Causes.{cause1, cause2, cause3, cause4, cause5, cause6, cause7, cause8, cause9, cause10, firstCause, headerCauses, familyCauses, fileCauses, Accepted}
 use Rattle.reader.specs.WellFormed.{Ordered, WellFormed}
 use Rattle.reader.specs.Private.InPlace.{Whole}
@@ -82,11 +82,11 @@ unfolding headerCauses familyCauses fileCauses
 file-numbered s = omega arith
 
 pub record HeaderClear (s : List ℕ) : Type 0 where
-  pub no1 : cause1 s ≡ false
+  pub no1 : cause1 mark s ≡ false
   pub no2 : cause2 (familyOf s .peptides) ≡ false
   pub no3 : cause3 (familyOf s) ≡ false
   pub no4 : cause4 (familyOf s) ≡ false
-  pub no5 : cause5 s ≡ false
+  pub no5 : cause5 lengthsOffset s ≡ false
 
 pub header-clear : (s : List ℕ) → firstCause (headerCauses s) ≡ 0 → HeaderClear s
 unfolding headerCauses
@@ -99,7 +99,7 @@ header-clear s h =
     record { no1 = a .0; no2 = b .0; no3 = c .0; no4 = d .0; no5 = e .0 }
 
 pub header-whole : (s : List ℕ) → firstCause (headerCauses s) ≡ 0 → Whole s
-header-whole s h = omega (arith, laid-down s (header-clear s h .no5) .whole, leaves-read s, regions-read s)
+header-whole s h = omega (arith, laid-down 16 s (header-clear s h .no5) .whole, leaves-read s, regions-read s)
 
 pub record FamilyClear (F : Family) : Type 0 where
   pub no6 : cause6 F ≡ false
@@ -198,7 +198,7 @@ module _ (s : List ℕ) where
       omega (arith, leaves-counted F (h .no3), regions-counted F (h .no4))
 
   pub whole-length : HeaderClear s → length s ≡ totalLength (leaves (familyOf s)) (regionCount (familyOf s))
-  whole-length h = omega (arith, laid-down s (h .no5) .whole, leaves-read s, regions-read s)
+  whole-length h = omega (arith, laid-down 16 s (h .no5) .whole, leaves-read s, regions-read s)
 
   -- the part of the file with the regions
   pub part-accepted : Accepted s → regionPart s ≡ drop (regionsOffset (leaves (familyOf s))) s

@@ -3,6 +3,7 @@
 --   clash                    it does not do both
 --   passes, refuted          a test that cannot fail passes, and one that cannot pass fails
 --   and-l, and-r, and-both   where `a && b` passes, a passes, and b passes; where both pass, so does it
+--   and-swap                 of two tests joined by and either may come first
 --   both-ways                two tests are equal if each gives the other
 --   ands                     `search ands` proves one conjunction of tests from another
 --   and-fails                where `a && b` fails, a fails or b does
@@ -41,6 +42,12 @@ and-r false b h = absurd (true≢false (sym h))
 pub and-both : (a b : Bool) → a ≡ true → b ≡ true → a && b ≡ true
 and-both true b h k = k
 and-both false b h k = h
+
+pub and-swap : (a b : Bool) → a && b ≡ b && a
+and-swap true true = refl
+and-swap true false = refl
+and-swap false true = refl
+and-swap false false = refl
 
 pub both-ways : (a b : Bool) → (a ≡ true → b ≡ true) → (b ≡ true → a ≡ true) → a ≡ b
 both-ways true b f g = sym (f refl)

@@ -17,7 +17,7 @@ use Rattle.reader.specs.Causes.{cause9, cause10}
 use Rattle.reader.specs.WellFormed.{Ordered, NestedBelow, IsParent, ParentsBelow}
 use Rattle.reader.specs.Private.Climb.{Climbed, endsBefore, oneDeeper}
 use Rattle.reader.proofs.Bools.{test, clash, refuted, and-l, and-r, and-both, and-fails, not-passes}
-use Rattle.reader.proofs.Lists.{length-tabulate, getD-tabulate}
+use Rattle.reader.proofs.Lists.{length-tabulate, getD-tabulate, set-more}
 use Rattle.reader.proofs.Below.{below-next, last-below, none-at, none-below, some-at, first-at, first-none, count-below-none, count-one-more}
 
 -- Leaf ranges that lie within each other, as inequalities.
@@ -306,12 +306,7 @@ module _ (F : Family) (o : Ordered F) (nested : NestedBelow F (regionCount F)) (
   pub counted-more : (d : ℕ) → k < length D → d ≡ regionsAround F k → d ≤ 63 → Counted F (set D k d) (k + 1)
   counted-more d room e most =
       record {
-        depth =
-            λ i l.
-            ⊎-elim
-            (λ q. rw q (getD-set-same D k d 0 room ∙ e))
-            (λ b. getD-set-other D k i d 0 (λ q. omega arith) ∙ counted .depth i b)
-            (below-next l);
+        depth = set-more (regionsAround F) D k d room (counted .depth) e;
         shallow = λ i l. ⊎-elim (λ q. rw q (omega arith)) (λ b. counted .shallow i b) (below-next l);
       }
 

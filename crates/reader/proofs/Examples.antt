@@ -1,4 +1,4 @@
--- Worked examples of the check and of the leaf walk: the eight-peptide family, and the edges of causes 2, 3, 4, 6 and 10.
+-- Worked examples of the check: the eight-peptide family, and the edges of causes 2, 3, 4, 6 and 10.
 use Prim.Native.Nat.{ℕ, zero, suc, _+_, _-_, _<_, _≤_}
 use mathlib.Core.Bool.{Bool, true, false, cond}
 use mathlib.Core.List.{List, [], _∷_, _++_}
@@ -7,13 +7,13 @@ use native.Mathlib.Omega.{arith}
 use lib.ListN.{length, replicate, take, drop}
 use Rattle.reader.specs.Lists.{tabulate, sum, sameList, someBelow, countBelow, firstBelow}
 use Rattle.reader.specs.Bytes.{numberAt, bytesOf}
-use Rattle.reader.specs.Family.{Region, Family, region, mark, lengthAt, regionAt, familyOf, leafAfter, leafOf, regionFields, fields, fileOf}
+use Rattle.reader.specs.Family.{Region, Family, region, mark, lengthAt, regionAt, familyOf, regionFields, fields, fileOf}
 use Rattle.reader.specs.Nesting.{before, shareLeaf, regionWithin, crossing, regionInside, regionsAround, regionJustInside, parent, parents}
 use Rattle.reader.specs.Causes.{cause1, cause2, cause3, cause4, cause5, cause6, cause7, cause8, cause9, cause10, misplaced, firstCause, headerCauses, familyCauses, fileCauses}
 use Rattle.reader.specs.WellFormed.{WellFormed}
 use Rattle.reader.proofs.Bools.{passes}
 use Rattle.reader.proofs.Parsed.{peptides-read, leaves-read}
-use Rattle.reader.proofs.Judged.{from-marked, from-peptides-counted, leaves-counted, header-3}
+use Rattle.reader.proofs.Judged.{from-marked, from-peptides-counted, leaves-counted, header-rest, layout-3}
 use Rattle.reader.proofs.Accepting.{file-header}
 use Rattle.reader.proofs.Files.{field-read, file-length, file-accepted}
 use Rattle.reader.specs.Calls.{answer, checked, regionPart, partStart}
@@ -100,20 +100,6 @@ pub eight-parents : parents eight ≡ 0 ∷ 1 ∷ 1 ∷ 0 ∷ 4 ∷ []
 unfolding number firstBelow regionJustInside parent parents
 eight-parents = refl
 
--- the leaves of the numbers 0 to n - 1
-abbrev pub leavesOf : Family → ℕ → List ℕ
-leavesOf F n = tabulate n (leafOf F)
-
-pub record LeafExamples : Type 0 where
-  -- peptides 1 and 2 are in leaf 1, 3 to 5 in leaf 2, 6 in leaf 3, 7 and 8 in leaf 4; there is no peptide 9
-  pub eight-leaves : leavesOf eight 10 ≡ 1 ∷ 1 ∷ 1 ∷ 2 ∷ 2 ∷ 2 ∷ 3 ∷ 4 ∷ 4 ∷ 0 ∷ []
-  -- empty leaves before, between and after others: lengths 0, 2, 0, 0, 3, 0
-  pub empty-leaves-passed : leavesOf (record { peptides = 5; lengths = 0 ∷ 2 ∷ 0 ∷ 0 ∷ 3 ∷ 0 ∷ []; regions = [] }) 7 ≡ 1 ∷ 2 ∷ 2 ∷ 5 ∷ 5 ∷ 5 ∷ 0 ∷ []
-
-pub leaf-examples : LeafExamples
-unfolding leafOf leafAfter tabulate
-leaf-examples = record { eight-leaves = refl; empty-leaves-passed = refl }
-
 -- the lengths of `lastLeafOnly`
 only-length : (k : ℕ) → length {A = ℕ} (replicate k 0 ++ (1 ∷ [])) ≡ suc k
 only-length zero = refl
@@ -165,8 +151,8 @@ too-many n over fits =
     let m : numberAt s 4 ≡ 1 = field-read F 0 4 refl (omega arith) in
     let read : numberAt s 6 ≡ length (F .lengths) = field-read F 1 6 refl (omega (arith, many)) in
     let three =
-    header-3 s
-    (from-marked s (omega (arith, file-length F)) (unfold fileOf mark in refl))
+    header-rest s (from-marked mark s (omega (arith, file-length F)) (unfold fileOf mark in refl))
+    ∙ layout-3 16 s
     (from-peptides-counted (familyOf s .peptides) (omega (arith, peptides-read s)) (omega (arith, peptides-read s)))
     (passes (cause3 (familyOf s)) (λ f. omega (arith, leaves-counted (familyOf s) f, leaves-read s)))
     in

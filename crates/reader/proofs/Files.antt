@@ -2,6 +2,7 @@
 use Prim.Native.Nat.{ℕ, zero, suc, _+_, _*_, _/_, _%_, _<_, _≤_}
 use native.Mathlib.Nat.{not-suc-le-zero, le-of-suc-le-suc, eq-or-lt-of-le, zero-add, suc-add}
 use native.Mathlib.Omega.{arith}
+use mathlib.Core.Bool.{false}
 use mathlib.Core.List.{List, [], _∷_, _++_}
 use mathlib.Core.Path.{_≡_, refl, sym, ap, ap₂, subst, _∙_}
 use mathlib.Core.Logic.{⊎-elim, inl, inr}
@@ -10,13 +11,14 @@ use lib.Seq.{ext-getD, getD-append-add, getD-drop, take-append-seam}
 use Rattle.reader.specs.Lists.{tabulate, sum}
 use Rattle.reader.specs.Bytes.{IsBytes, numberAt, bytesOf}
 use Rattle.reader.specs.Family.{Region, Family, noRegion, leaves, regionCount, region, mark, totalLength, lengthAt, regionAt, familyOf, regionFields, fields, fileOf}
-use Rattle.reader.specs.Causes.{Accepted}
+use Rattle.reader.specs.Causes.{cause2, cause3, cause4, firstCause, headerCauses, listingCauses, familyCauses, fileCauses, Accepted}
 use Rattle.reader.specs.WellFormed.{WellFormed}
 use Rattle.reader.proofs.Lists.{length-tabulate, getD-tabulate, tabulate-same}
 use Rattle.reader.proofs.Parsed.{peptides-read, leaves-read, regions-read}
 use Rattle.reader.proofs.Judged.{Before, LaidDown, mark-there, from-marked, from-peptides-counted, from-leaves-counted, from-regions-counted, laid-down, from-laid-down, from-lengths-clear, from-regions-placed, from-regions-rise}
 use Rattle.reader.proofs.Climbing.{clear-if-nested, not-too-deep}
-use Rattle.reader.proofs.Accepting.{HeaderClear, FamilyClear, accepted-header, header-none, family-none, file-family}
+use Rattle.reader.proofs.First.{join-clear}
+use Rattle.reader.proofs.Accepting.{FamilyClear, accepted-header, header-none, family-none, file-family, header-numbered}
 
 -- Numbers in a row, as bytes.
 
@@ -25,7 +27,7 @@ unfolding bytesOf
 length-bytes [] = refl
 length-bytes (n ∷ ns) = omega (arith, length-bytes ns)
 
-all-bytes : (ns : List ℕ) → IsBytes (bytesOf ns)
+pub all-bytes : (ns : List ℕ) → IsBytes (bytesOf ns)
 unfolding bytesOf
 all-bytes [] i = omega arith
 all-bytes (n ∷ ns) zero = omega arith
@@ -68,7 +70,7 @@ field-read F i a e h = rw e (number-past-mark (bytesOf (fields F)) (2 * i) ∙ n
 
 -- The fields of a family, one by one.
 
-region-fields-length : (rs : List Region) → length (regionFields rs) ≡ 3 * length rs
+pub region-fields-length : (rs : List Region) → length (regionFields rs) ≡ 3 * length rs
 unfolding regionFields
 region-fields-length [] = refl
 region-fields-length (r ∷ rs) = omega (arith, region-fields-length rs)
@@ -134,27 +136,35 @@ element-in-sum [] j = omega arith
 element-in-sum (x ∷ l) zero = omega arith
 element-in-sum (x ∷ l) (suc j) = omega (arith, element-in-sum l j)
 
--- The family of the file of a well-formed family.
+-- The family of the file of a family whose numbers fit.
 
-module _ (F : Family) (w : WellFormed F) where
+pub record Fits (F : Family) : Type 0 where
+  pub peptides : F .peptides < 65536
+  pub total : totalLength (leaves F) (regionCount F) < 65536
+  pub lengths : (j : ℕ) → getD (F .lengths) j 0 < 65536
+  pub first : (k : ℕ) → k < regionCount F → region F k .first < 65536
+  pub last : (k : ℕ) → k < regionCount F → region F k .last < 65536
+  pub z : (k : ℕ) → k < regionCount F → region F k .z < 65536
+
+module _ (F : Family) (fits : Fits F) where
   read-peptides : numberAt (fileOf F) 4 ≡ F .peptides
   unfolding fields
-  read-peptides = field-read F 0 4 refl (omega (arith, w .peptides-most))
+  read-peptides = field-read F 0 4 refl (fits .peptides)
 
   read-leaves : numberAt (fileOf F) 6 ≡ leaves F
   unfolding fields
-  read-leaves = field-read F 1 6 refl (omega (arith, w .leaves-most))
+  read-leaves = field-read F 1 6 refl (omega (arith, fits .total))
 
   read-regions : numberAt (fileOf F) 8 ≡ regionCount F
   unfolding fields
-  read-regions = field-read F 2 8 refl (omega (arith, w .leaves-most, w .regions-most))
+  read-regions = field-read F 2 8 refl (omega (arith, fits .total))
 
-  read-laid-down : LaidDown (fileOf F)
+  pub read-laid-down : LaidDown 16 (fileOf F)
   unfolding fields
   read-laid-down =
       let n = read-leaves in
       let k = read-regions in
-      let small : totalLength (leaves F) (regionCount F) < 65536 = omega (arith, w .leaves-most, w .regions-most) in
+      let small = fits .total in
       record {
         lengths = field-read F 3 10 refl (omega arith);
         regions = field-read F 4 12 refl (omega arith) ∙ omega arith;
@@ -166,7 +176,7 @@ module _ (F : Family) (w : WellFormed F) where
   unfolding lengthAt
   read-length j h =
       let e = length-field F j h in
-      field-read F (6 + j) (16 + 2 * j) (omega arith) (omega (arith, element-in-sum (F .lengths) j, w .lengths-sum, w .peptides-most)) ∙ e
+      field-read F (6 + j) (16 + 2 * j) (omega arith) (omega (arith, fits .lengths j)) ∙ e
 
   read-region : (k : ℕ) → k < regionCount F → regionAt (fileOf F) k ≡ region F k
   unfolding regionAt region
@@ -177,23 +187,22 @@ module _ (F : Family) (w : WellFormed F) where
       let b = region-field F (3 * k + 1) ∙ f .last in
       let z = region-field F (3 * k + 2) ∙ f .z in
       let o : ℕ = 16 + 2 * numberAt (fileOf F) 6 + 6 * k in
-      let small = w .ordered .last-leaf k h in
       let first : numberAt (fileOf F) o ≡ region F k .first =
-      field-read F (6 + (leaves F + 3 * k)) o (omega arith) (omega (arith, w .ordered .first-last k h, w .leaves-most)) ∙ a in
+      field-read F (6 + (leaves F + 3 * k)) o (omega arith) (omega (arith, fits .first k h)) ∙ a in
       let last : numberAt (fileOf F) (o + 2) ≡ region F k .last =
-      field-read F (6 + (leaves F + (3 * k + 1))) (o + 2) (omega arith) (omega (arith, w .leaves-most)) ∙ b in
+      field-read F (6 + (leaves F + (3 * k + 1))) (o + 2) (omega arith) (omega (arith, fits .last k h)) ∙ b in
       let bound : numberAt (fileOf F) (o + 4) ≡ region F k .z =
-      field-read F (6 + (leaves F + (3 * k + 2))) (o + 4) (omega arith) (omega (arith, w .z-fits k h)) ∙ z in
+      field-read F (6 + (leaves F + (3 * k + 2))) (o + 4) (omega arith) (omega (arith, fits .z k h)) ∙ z in
       λ i. record { first = first i; last = last i; z = bound i }
 
   listed : (k : ℕ) → k < regionCount F → regionAt (fileOf F) k ≡ getD (F .regions) k noRegion
   unfolding region
   listed k h = read-region k h
 
-  -- A well-formed family is read back from its file.
-  pub read-back : familyOf (fileOf F) ≡ F
+  -- Such a family is read back from its file.
+  pub fitting-read-back : familyOf (fileOf F) ≡ F
   unfolding familyOf
-  read-back =
+  fitting-read-back =
       let lengths : tabulate (numberAt (fileOf F) 6) (lengthAt (fileOf F)) ≡ F .lengths =
       ext-getD 0 _ (F .lengths) (length-tabulate _ (lengthAt (fileOf F)) ∙ read-leaves)
       (λ j h. let l : j < numberAt (fileOf F) 6 = omega (arith, length-tabulate (numberAt (fileOf F) 6) (lengthAt (fileOf F))) in getD-tabulate (numberAt (fileOf F) 6) (lengthAt (fileOf F)) 0 j l ∙ read-length j (omega (arith, read-leaves))) in
@@ -206,6 +215,43 @@ module _ (F : Family) (w : WellFormed F) where
   unfolding fileOf mark
   starts-with-mark = take-append-seam mark (bytesOf (fields F))
 
+  -- With counts that pass, the header of its file has no cause, and the first cause of the file is the first of the family.
+  module _ (h2 : cause2 (F .peptides) ≡ false) (h3 : cause3 F ≡ false) (h4 : cause4 F ≡ false) where
+    header-fits : firstCause (headerCauses (fileOf F)) ≡ 0
+    header-fits =
+        header-none (fileOf F)
+        (record {
+          no1 = from-marked mark (fileOf F) (omega (arith, file-length F)) starts-with-mark;
+          no2 = rw fitting-read-back h2;
+          no3 = rw fitting-read-back h3;
+          no4 = rw fitting-read-back h4;
+          no5 = from-laid-down 16 (fileOf F) read-laid-down;
+        })
+
+    pub judged-as-family : firstCause (fileCauses (fileOf F)) ≡ firstCause (familyCauses F)
+    judged-as-family = file-family (fileOf F) header-fits ∙ ap (λ (G : Family). firstCause (familyCauses G)) fitting-read-back
+
+    pub judged-as-listing : firstCause (headerCauses (fileOf F) ++ listingCauses (familyOf (fileOf F))) ≡ firstCause (listingCauses F)
+    judged-as-listing =
+        join-clear (headerCauses (fileOf F)) (listingCauses (familyOf (fileOf F))) (header-numbered (fileOf F)) header-fits
+        ∙ ap (λ (G : Family). firstCause (listingCauses G)) fitting-read-back
+
+module _ (F : Family) (w : WellFormed F) where
+  pub well-formed-fits : Fits F
+  well-formed-fits =
+      record {
+        peptides = omega (arith, w .peptides-most);
+        total = omega (arith, w .leaves-most, w .regions-most);
+        lengths = λ j. omega (arith, element-in-sum (F .lengths) j, w .lengths-sum, w .peptides-most);
+        first = λ k h. omega (arith, w .ordered .first-last k h, w .ordered .last-leaf k h, w .leaves-most);
+        last = λ k h. omega (arith, w .ordered .last-leaf k h, w .leaves-most);
+        z = w .z-fits;
+      }
+
+  -- A well-formed family is read back from its file.
+  pub read-back : familyOf (fileOf F) ≡ F
+  read-back = fitting-read-back F well-formed-fits
+
   next-before : (k : ℕ) → k + 1 < regionCount F → Before (region F k) (region F (k + 1))
   next-before k h =
       ⊎-elim
@@ -216,19 +262,12 @@ module _ (F : Family) (w : WellFormed F) where
   -- The file of a well-formed family is accepted.
   pub file-accepted : Accepted (fileOf F)
   file-accepted =
-      file-family (fileOf F) (header-none (fileOf F) head)
-      ∙ family-none (familyOf (fileOf F)) (subst FamilyClear (sym read-back) family)
+      judged-as-family F well-formed-fits
+      (from-peptides-counted (F .peptides) (w .peptides-some) (w .peptides-most))
+      (from-leaves-counted F (w .leaves-some) (w .leaves-most))
+      (from-regions-counted F (w .regions-most))
+      ∙ family-none F family
     where
-      head : HeaderClear (fileOf F)
-      head =
-          record {
-            no1 = from-marked (fileOf F) (omega (arith, file-length F)) starts-with-mark;
-            no2 = rw read-back (from-peptides-counted (F .peptides) (w .peptides-some) (w .peptides-most));
-            no3 = rw read-back (from-leaves-counted F (w .leaves-some) (w .leaves-most));
-            no4 = rw read-back (from-regions-counted F (w .regions-most));
-            no5 = from-laid-down (fileOf F) read-laid-down;
-          }
-
       family : FamilyClear F
       family =
           record {
@@ -287,7 +326,7 @@ unfolding numberAt
 high-byte a b l h k = omega arith
 
 -- a list of bytes is the row of the numbers that stand in it
-row-of-numbers : (n : ℕ) (l : List ℕ) → IsBytes l → length l ≡ 2 * n → bytesOf (tabulate n (λ i. numberAt l (2 * i))) ≡ l
+pub row-of-numbers : (n : ℕ) (l : List ℕ) → IsBytes l → length l ≡ 2 * n → bytesOf (tabulate n (λ i. numberAt l (2 * i))) ≡ l
 unfolding tabulate bytesOf
 row-of-numbers zero [] b e = refl
 row-of-numbers zero (x ∷ l) b e = absurd (omega arith)
@@ -297,15 +336,14 @@ row-of-numbers (suc n) (x ∷ y ∷ l) b e =
     rw (low-byte x y l (b 0), high-byte x y l (b 0) (b 1), tabulate-same n (λ i. numberAt (x ∷ y ∷ l) (2 * suc i)) (λ i. numberAt l (2 * i)) (λ i h. number-further x y l i))
     (ap (λ (t : List ℕ). x ∷ y ∷ t) (row-of-numbers n l (λ i. b (suc (suc i))) (omega arith)))
 
-number-dropped : (s : List ℕ) (i : ℕ) → numberAt (drop 4 s) (2 * i) ≡ numberAt s (4 + 2 * i)
+pub number-dropped : (n : ℕ) (s : List ℕ) (i : ℕ) → numberAt (drop n s) i ≡ numberAt s (n + i)
 unfolding numberAt
-number-dropped s i =
-    omega (arith, getD-drop 4 s (2 * i) 0, getD-drop 4 s (2 * i + 1) 0, ap (λ (k : ℕ). getD s k 0) (regroup (2 * i)))
+number-dropped n s i = omega (arith, getD-drop n s i 0, getD-drop n s (i + 1) 0, ap (λ (k : ℕ). getD s k 0) (regroup n i))
   where
-    regroup : (j : ℕ) → 4 + j + 1 ≡ 4 + (j + 1)
-    regroup j = omega arith
+    regroup : (n i : ℕ) → n + i + 1 ≡ n + (i + 1)
+    regroup n i = omega arith
 
-module _ (s : List ℕ) (laid : LaidDown s) where
+module _ (s : List ℕ) (laid : LaidDown 16 s) where
   -- after the header the numbers in a row are the lengths and the fields of the regions
   body-numbers : familyOf s .lengths ++ regionFields (familyOf s .regions) ≡ tabulate (numberAt s 6 + 3 * numberAt s 8) (λ i. numberAt s (16 + 2 * i))
   unfolding familyOf lengthAt regionAt
@@ -347,11 +385,11 @@ module _ (s : List ℕ) (laid : LaidDown s) where
       let n : ℕ = 6 + (numberAt s 6 + 3 * numberAt s 8) in
       rw all-numbers
       (ap₂ _++_ (sym m)
-      (ap bytesOf (tabulate-same n (λ i. numberAt s (4 + 2 * i)) (λ i. numberAt (drop 4 s) (2 * i)) (λ i h. sym (number-dropped s i)))
+      (ap bytesOf (tabulate-same n (λ i. numberAt s (4 + 2 * i)) (λ i. numberAt (drop 4 s) (2 * i)) (λ i h. sym (number-dropped 4 s (2 * i))))
       ∙ row-of-numbers n (drop 4 s) (λ i. subst (λ (x : ℕ). x < 256) (sym (getD-drop 4 s i 0)) (b (4 + i))) (omega (arith, length-drop 4 s, laid .whole)))
       ∙ take-append-drop 4 s)
 
 -- An accepted file is the file of its family.
 pub accepted-written-back : (s : List ℕ) → IsBytes s → Accepted s → fileOf (familyOf s) ≡ s
 accepted-written-back s b a =
-    let h = accepted-header s a in file-written-back s (laid-down s (h .no5)) b (mark-there s (h .no1) .1)
+    let h = accepted-header s a in file-written-back s (laid-down 16 s (h .no5)) b (mark-there mark s (h .no1) .1)

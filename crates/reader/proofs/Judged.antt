@@ -11,9 +11,9 @@ use lib.Dec.{leb, ltb, eqb}
 use borrow.Author.Tests.{ltb-true, ltb-false, leb-true, leb-false, eqb-true, eqb-false, lt-ltb, le-ltb, eq-eqb, ne-eqb, not-false}
 use Rattle.reader.specs.Lists.{sum, sameList}
 use Rattle.reader.specs.Bytes.{numberAt}
-use Rattle.reader.specs.Family.{Region, Family, leaves, regionCount, region, familyOf, mark, regionsOffset, totalLength}
+use Rattle.reader.specs.Family.{Region, Family, leaves, regionCount, region, familyOf, mark, lengthsOffset}
 use Rattle.reader.specs.Nesting.{before}
-use Rattle.reader.specs.Causes.{cause1, cause2, cause3, cause4, cause5, cause6, cause7, cause8, misplaced, firstCause, headerCauses}
+use Rattle.reader.specs.Causes.{cause1, cause2, cause3, cause4, cause5, cause6, cause7, cause8, misplaced, firstCause, layoutCauses, headerCauses, listingCauses}
 use Rattle.reader.proofs.Bools.{test, refuted, and-l, and-r, and-both, or-l, or-r, or-either, or-neither, or-fails-l, or-fails-r, not-fails, not-passes}
 use Rattle.reader.proofs.Below.{none-at, none-below}
 use Rattle.reader.proofs.Lists.{same-equal, same-refl}
@@ -36,17 +36,22 @@ zero-unless a h = ne-eqb a 0 (λ e. omega arith)
 
 -- Causes 1 to 5.
 
-module _ (s : List ℕ) where
-  pub mark-there : cause1 s ≡ false → (16 ≤ length s) × (take 4 s ≡ mark)
+module _ (wanted s : List ℕ) where
+  pub mark-there : cause1 wanted s ≡ false → (16 ≤ length s) × (take 4 s ≡ wanted)
   unfolding cause1
   mark-there h = (
-    ltb-false (length s) 16 (or-fails-l (ltb (length s) 16) (not (sameList (take 4 s) mark)) h),
-    same-equal (take 4 s) mark (not-false _ (or-fails-r (ltb (length s) 16) (not (sameList (take 4 s) mark)) h)),
+    ltb-false (length s) 16 (or-fails-l (ltb (length s) 16) (not (sameList (take 4 s) wanted)) h),
+    same-equal (take 4 s) wanted (not-false _ (or-fails-r (ltb (length s) 16) (not (sameList (take 4 s) wanted)) h)),
   )
 
-  pub from-marked : 16 ≤ length s → take 4 s ≡ mark → cause1 s ≡ false
+  pub from-marked : 16 ≤ length s → take 4 s ≡ wanted → cause1 wanted s ≡ false
   unfolding cause1
-  from-marked h e = or-neither _ _ (le-ltb (length s) 16 h) (rw e (not-fails (sameList mark mark) (same-refl mark)))
+  from-marked h e = or-neither _ _ (le-ltb (length s) 16 h) (rw e (not-fails (sameList wanted wanted) (same-refl wanted)))
+
+  -- the test for the mark, where the file has 16 bytes
+  pub marked-so : 16 ≤ length s → cause1 wanted s ≡ not (sameList (take 4 s) wanted)
+  unfolding cause1
+  marked-so h = rw (le-ltb (length s) 16 h)
 
 module _ (m : ℕ) where
   pub peptides-counted : cause2 m ≡ false → (1 ≤ m) × (m ≤ 4096)
@@ -74,34 +79,34 @@ module _ (F : Family) where
   unfolding cause4
   from-regions-counted h = le-ltb _ _ h
 
--- the offsets and the length as laid down
-pub record LaidDown (s : List ℕ) : Type 0 where
-  pub lengths : numberAt s 10 ≡ 16
-  pub regions : numberAt s 12 ≡ regionsOffset (numberAt s 6)
-  pub total : numberAt s 14 ≡ totalLength (numberAt s 6) (numberAt s 8)
-  pub whole : length s ≡ totalLength (numberAt s 6) (numberAt s 8)
+-- the offsets and the length as laid down, with the leaf lengths from that byte on
+pub record LaidDown (start : ℕ) (s : List ℕ) : Type 0 where
+  pub lengths : numberAt s 10 ≡ start
+  pub regions : numberAt s 12 ≡ start + 2 * numberAt s 6
+  pub total : numberAt s 14 ≡ start + 2 * numberAt s 6 + 6 * numberAt s 8
+  pub whole : length s ≡ start + 2 * numberAt s 6 + 6 * numberAt s 8
 
-module _ (s : List ℕ) where
-  pub laid-down : cause5 s ≡ false → LaidDown s
+module _ (start : ℕ) (s : List ℕ) where
+  pub laid-down : cause5 start s ≡ false → LaidDown start s
   unfolding cause5
   laid-down h =
       let N : ℕ = leaves (familyOf s) in
       let K : ℕ = regionCount (familyOf s) in
-      let a : Bool = not (eqb (numberAt s 10) 16) in
-      let b : Bool = not (eqb (numberAt s 12) (regionsOffset N)) in
-      let c : Bool = not (eqb (numberAt s 14) (totalLength N K)) in
+      let a : Bool = not (eqb (numberAt s 10) start) in
+      let b : Bool = not (eqb (numberAt s 12) (start + 2 * N)) in
+      let c : Bool = not (eqb (numberAt s 14) (start + 2 * N + 6 * K)) in
       let d : Bool = not (eqb (length s) (numberAt s 14)) in
       let abc : (a || b || c) ≡ false = or-fails-l (a || b || c) d h in
       let ab : (a || b) ≡ false = or-fails-l (a || b) c abc in
       let n = leaves-read s in
       let k = regions-read s in
-      let o = eq-if-same (numberAt s 10) 16 (or-fails-l a b ab) in
-      let r = eq-if-same (numberAt s 12) (regionsOffset N) (or-fails-r a b ab) in
-      let t = eq-if-same (numberAt s 14) (totalLength N K) (or-fails-r (a || b) c abc) in
+      let o = eq-if-same (numberAt s 10) start (or-fails-l a b ab) in
+      let r = eq-if-same (numberAt s 12) (start + 2 * N) (or-fails-r a b ab) in
+      let t = eq-if-same (numberAt s 14) (start + 2 * N + 6 * K) (or-fails-r (a || b) c abc) in
       let w = eq-if-same (length s) (numberAt s 14) (or-fails-r (a || b || c) d h) in
       record { lengths = o; regions = omega arith; total = omega arith; whole = omega arith }
 
-  pub from-laid-down : LaidDown s → cause5 s ≡ false
+  pub from-laid-down : LaidDown start s → cause5 start s ≡ false
   unfolding cause5
   from-laid-down l =
       let N : ℕ = leaves (familyOf s) in
@@ -110,17 +115,17 @@ module _ (s : List ℕ) where
       let k = regions-read s in
       or-neither _ _
       (or-neither _ _
-      (or-neither _ _ (same-if-eq (numberAt s 10) 16 (l .lengths)) (same-if-eq (numberAt s 12) (regionsOffset N) (omega arith)))
-      (same-if-eq (numberAt s 14) (totalLength N K) (omega arith)))
+      (or-neither _ _ (same-if-eq (numberAt s 10) start (l .lengths)) (same-if-eq (numberAt s 12) (start + 2 * N) (omega arith)))
+      (same-if-eq (numberAt s 14) (start + 2 * N + 6 * K) (omega arith)))
       (same-if-eq (length s) (numberAt s 14) (omega arith))
 
   -- the last test, where the others have failed
   pub length-laid-down :
-      numberAt s 10 ≡ 16 → numberAt s 12 ≡ regionsOffset (numberAt s 6) → numberAt s 14 ≡ totalLength (numberAt s 6) (numberAt s 8)
-      → cause5 s ≡ not (eqb (length s) (totalLength (numberAt s 6) (numberAt s 8)))
+      numberAt s 10 ≡ start → numberAt s 12 ≡ start + 2 * numberAt s 6 → numberAt s 14 ≡ start + 2 * numberAt s 6 + 6 * numberAt s 8
+      → cause5 start s ≡ not (eqb (length s) (start + 2 * numberAt s 6 + 6 * numberAt s 8))
   unfolding cause5
   length-laid-down o r t =
-      rw (leaves-read s, regions-read s, same-if-eq (numberAt s 10) 16 o, same-if-eq (numberAt s 12) _ r, same-if-eq (numberAt s 14) _ t, t)
+      rw (leaves-read s, regions-read s, same-if-eq (numberAt s 10) start o, same-if-eq (numberAt s 12) _ r, same-if-eq (numberAt s 14) _ t, t)
 
 -- Causes 6 to 10.
 
@@ -220,21 +225,37 @@ module _ (F : Family) where
 -- The first cause of the header that holds.
 
 module _ (s : List ℕ) where
-  pub header-1 : cause1 s ≡ true → firstCause (headerCauses s) ≡ 1
+  pub header-1 : cause1 mark s ≡ true → firstCause (headerCauses s) ≡ 1
   unfolding firstCause headerCauses
   header-1 h = rw h
 
-  pub header-2 : cause1 s ≡ false → cause2 (familyOf s .peptides) ≡ true → firstCause (headerCauses s) ≡ 2
+  pub header-rest : cause1 mark s ≡ false → firstCause (headerCauses s) ≡ firstCause (layoutCauses lengthsOffset s)
   unfolding firstCause headerCauses
-  header-2 h1 h = rw (h1, h)
+  header-rest h = rw h
 
-  pub header-3 : cause1 s ≡ false → cause2 (familyOf s .peptides) ≡ false → cause3 (familyOf s) ≡ true → firstCause (headerCauses s) ≡ 3
-  unfolding firstCause headerCauses
-  header-3 h1 h2 h = rw (h1, h2, h)
+module _ (start : ℕ) (s : List ℕ) where
+  pub layout-2 : cause2 (familyOf s .peptides) ≡ true → firstCause (layoutCauses start s) ≡ 2
+  unfolding firstCause
+  layout-2 h = rw h
 
-  -- causes 1 to 4 do not hold
-  pub header-5 :
-      cause1 s ≡ false → cause2 (familyOf s .peptides) ≡ false → cause3 (familyOf s) ≡ false
-      → firstCause (headerCauses s) ≡ cond (cause4 (familyOf s)) 4 (cond (cause5 s) 5 0)
-  unfolding firstCause headerCauses
-  header-5 h1 h2 h3 = rw (h1, h2, h3)
+  pub layout-3 : cause2 (familyOf s .peptides) ≡ false → cause3 (familyOf s) ≡ true → firstCause (layoutCauses start s) ≡ 3
+  unfolding firstCause
+  layout-3 h2 h = rw (h2, h)
+
+  -- causes 2 and 3 do not hold
+  pub layout-5 :
+      cause2 (familyOf s .peptides) ≡ false → cause3 (familyOf s) ≡ false
+      → firstCause (layoutCauses start s) ≡ cond (cause4 (familyOf s)) 4 (cond (cause5 start s) 5 0)
+  unfolding firstCause
+  layout-5 h2 h3 = rw (h2, h3)
+
+-- The first of the causes 6 and 7.
+
+module _ (F : Family) where
+  pub listing-6 : cause6 F ≡ true → firstCause (listingCauses F) ≡ 6
+  unfolding firstCause
+  listing-6 h = rw h
+
+  pub listing-7 : cause6 F ≡ false → firstCause (listingCauses F) ≡ cond (cause7 F) 7 0
+  unfolding firstCause
+  listing-7 h = rw h

@@ -2,13 +2,13 @@
 pub mod Bools
 pub mod Below
 pub mod Lists
+pub mod Members
 pub mod Parsed
 pub mod Judged
 pub mod Walk
 pub mod First
 pub mod Climbing
 pub mod Accepting
-pub mod LeafLaws
 pub mod ParentLaws
 pub mod Files
 pub mod NumberRows

@@ -2,6 +2,7 @@
 --   length-tabulate   `tabulate n f` has the length n
 --   getD-tabulate     it has f k at each place k below n
 --   tabulate-same     functions that agree below n give the same list
+--   map-append        what a function gives of two lists joined
 --   sum-take-suc      the sum up to one element more; past the end nothing is added
 --   sum-take          the sum up to a later element is no less
 --   same-refl         the test `sameList` passes for a list and itself
@@ -10,22 +11,26 @@
 --   same-all          it passes for lists of one length that agree at every place
 --   same-is           it passes for equal lists
 --   copy-more         a copy of the front of one list into another, one element further
+--   tabulate-more     `tabulate` with one element more
 --   write-none        a list that is written from the start with f 0, f 1, ..: before the first
 --   write-more        one element further
 --   write-first       the first
+--   set-more          a list that has f 0, f 1, .. at its first n places, and f n at the next once it is set
 --   zeros             a row of zeros reads 0 at every place, past its end too
 use Prim.Native.Nat.{ℕ, zero, suc, _+_, _<_, _≤_}
 use native.Mathlib.Nat.{not-suc-le-zero, le-of-suc-le-suc}
 use native.Mathlib.Omega.{arith}
 use native.Mathlib.Numerals.{add-one}
 use mathlib.Core.Bool.{true, false}
-use mathlib.Core.List.{List, [], _∷_, _++_}
-use mathlib.Core.Path.{_≡_, refl, sym, ap}
+use mathlib.Core.List.{List, [], _∷_, _++_, map}
+use mathlib.Core.Path.{_≡_, refl, sym, ap, _∙_}
+use mathlib.Core.Logic.{⊎-elim}
 use lib.ListN.{length, getD, take, drop, set, replicate}
-use lib.Seq.{ext-getD, drop-cons, take-suc, set-at, append-snoc, drop-set-lt, length-take-le}
+use lib.Seq.{ext-getD, drop-cons, take-suc, set-at, append-snoc, drop-set-lt, length-take-le, getD-set-same, getD-set-other}
 use lib.Dec.{eqb}
 use borrow.Author.Tests.{eqb-true, eq-eqb}
 use Rattle.reader.specs.Lists.{tabulate, sum, sameList}
+use Rattle.reader.proofs.Below.{below-next}
 use Rattle.reader.proofs.Bools.{and-l, and-r, and-both, refuted, clash}
 
 module _ {A : Type 0} where
@@ -45,6 +50,10 @@ module _ {A : Type 0} where
   tabulate-same zero f g h = refl
   tabulate-same (suc n) f g h =
       rw (h 0 (omega arith), tabulate-same n (λ i. f (suc i)) (λ i. g (suc i)) (λ i l. h (suc i) (omega arith)))
+
+pub map-append : {A B : Type 0} (f : A → B) (L M : List A) → map f (L ++ M) ≡ map f L ++ map f M
+map-append f [] M = refl
+map-append {B = B} f (x ∷ L) M = ap (λ (N : List B). f x ∷ N) (map-append f L M)
 
 pub sum-take-suc : (l : List ℕ) (j : ℕ) → sum (take (suc j) l) ≡ sum (take j l) + getD l j 0
 unfolding sum
@@ -90,7 +99,7 @@ copy-more f t i lf lt =
 
 -- Lists that are written from the start.
 
-tabulate-more : (n : ℕ) (f : ℕ → ℕ) → tabulate (suc n) f ≡ tabulate n f ++ (f n ∷ [])
+pub tabulate-more : (n : ℕ) (f : ℕ → ℕ) → tabulate (suc n) f ≡ tabulate n f ++ (f n ∷ [])
 unfolding tabulate
 tabulate-more zero f = refl
 tabulate-more (suc n) f = ap (λ (l : List ℕ). f 0 ∷ l) (tabulate-more n (λ i. f (suc i)))
@@ -108,6 +117,14 @@ write-more f xs n v h e =
 pub write-first : (f : ℕ → ℕ) (xs : List ℕ) (v : ℕ) → 0 < length xs → v ≡ f 0 → set xs 0 v ≡ tabulate (0 + 1) f ++ drop (0 + 1) (set xs 0 v)
 unfolding tabulate
 write-first f xs v h e = rw (drop-set-lt 1 xs 0 v (omega arith)) (write-more f xs 0 v h e)
+
+pub set-more : (f : ℕ → ℕ) (xs : List ℕ) (n v : ℕ) → n < length xs → ((i : ℕ) → i < n → getD xs i 0 ≡ f i) → v ≡ f n
+    → (i : ℕ) → i < n + 1 → getD (set xs n v) i 0 ≡ f i
+set-more f xs n v room known e i l =
+    ⊎-elim
+    (λ (q : i ≡ n). rw q (getD-set-same xs n v 0 room ∙ e))
+    (λ b. getD-set-other xs n i v 0 (λ q. omega arith) ∙ known i b)
+    (below-next l)
 
 pub zeros : (n k : ℕ) → _≡_ {A = ℕ} (getD (replicate n 0) k 0) 0
 zeros zero k = refl

@@ -5,8 +5,8 @@ use mathlib.Core.Path.{_≡_, refl, sym, ap, _∙_}
 use native.Mathlib.Nat.{add-zero}
 use native.Mathlib.Numerals.{add-one}
 use native.Mathlib.Omega.{arith}
-use lib.ListN.{length, getD, take, set, length-set}
-use lib.Seq.{sets, length-take-le, take-suc, set-out}
+use lib.ListN.{length, getD, take, drop, set, length-set, take-append-drop}
+use lib.Seq.{sets, length-sets, length-take-le, take-suc, set-out}
 use Rattle.reader.specs.Bytes.{bytesOf, withNumbers}
 use Rattle.reader.specs.Family.{Region, regionFields}
 use Rattle.reader.proofs.Files.{length-bytes}
@@ -59,3 +59,24 @@ module _ (out : List ℕ) (at : ℕ) where
   -- and where both do it is no store
   pub no-byte-put : (n : ℕ) → length out ≤ at → out ≡ withNumbers out at (n ∷ [])
   no-byte-put n h = sym (set-out out at (n % 256) h) ∙ low-byte-put n (omega arith)
+
+-- what is written over a list has its length
+pub numbers-length : (out : List ℕ) (at : ℕ) (ns : List ℕ) → length (withNumbers out at ns) ≡ length out
+unfolding withNumbers
+numbers-length out at ns = length-sets out at (bytesOf ns)
+
+-- stores past the end
+sets-past : (l : List ℕ) (i : ℕ) (xs : List ℕ) → length l ≤ i → sets l i xs ≡ l
+sets-past l i [] h = refl
+sets-past l i (x ∷ xs) h = rw (set-out l i x h) (sets-past l (suc i) xs (omega arith))
+
+-- numbers of which the first i are written, where the next one lies past the end
+pub numbers-past : (out : List ℕ) (at : ℕ) (ns : List ℕ) (i : ℕ) → i ≤ length ns → length out ≤ at + 2 * i
+    → withNumbers out at (take i ns) ≡ withNumbers out at ns
+numbers-past out at ns i h past =
+    sym (none (withNumbers out at (take i ns)) (at + 2 * i) (drop i ns) (rw (numbers-length out at (take i ns)) past))
+    ∙ numbers-join out at (take i ns) (drop i ns) (at + 2 * i) (omega (arith, length-take-le i ns h))
+    ∙ ap (withNumbers out at) (take-append-drop i ns)
+  where
+    none : (l : List ℕ) (i : ℕ) (ms : List ℕ) → length l ≤ i → withNumbers l i ms ≡ l
+    none l i ms h = unfold withNumbers in sets-past l i (bytesOf ms) h

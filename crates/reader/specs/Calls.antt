@@ -82,10 +82,6 @@ ParentsAnswers file out r = report r ≡ answer (parentsCauses file out) (counts
 abbrev pub ParentsWrites : List ℕ → List ℕ → List ℕ → Type 0
 ParentsWrites file out new = new ≡ written (parentsCauses file out) (parents (familyOf file)) out
 
--- the answer of `leaf_of`: a leaf's number
-abbrev pub LeafAnswers : List ℕ → ℕ → ℕ → Type 0
-LeafAnswers file peptide leaf = leaf ≡ family.leafOf (familyOf file) peptide
-
 -- the region that a struct holds
 unfoldable pub held : Region → family.Region
 held r = record { first = r .first .0; last = r .last .0; z = r .z }

@@ -7,12 +7,12 @@ use lib.ListN.{length, take}
 use lib.Dec.{ltb, eqb}
 use Rattle.reader.specs.Lists.{sum, sameList, someBelow}
 use Rattle.reader.specs.Bytes.{IsBytes, numberAt}
-use Rattle.reader.specs.Family.{Region, Family, leaves, regionCount, region, familyOf, mark, lengthsOffset, regionsOffset, totalLength}
+use Rattle.reader.specs.Family.{Region, Family, leaves, regionCount, region, familyOf, mark, lengthsOffset}
 use Rattle.reader.specs.Nesting.{before, crossing, regionsAround}
 
--- under 16 bytes, or another mark
-unfoldable pub cause1 : List ℕ → Bool
-cause1 s = ltb (length s) 16 || not (sameList (take 4 s) mark)
+-- under 16 bytes, or another mark than the one wanted
+unfoldable pub cause1 : List ℕ → List ℕ → Bool
+cause1 wanted s = ltb (length s) 16 || not (sameList (take 4 s) wanted)
 
 -- m is 0 or over 4,096
 unfoldable pub cause2 : ℕ → Bool
@@ -26,14 +26,14 @@ cause3 F = eqb (leaves F) 0 || ltb 4096 (leaves F)
 unfoldable pub cause4 : Family → Bool
 cause4 F = ltb (2 * leaves F - 1) (regionCount F)
 
--- an offset or the total not as laid down, or the given length not the total
-unfoldable pub cause5 : List ℕ → Bool
-cause5 s =
+-- an offset or the total not as laid down for a file with its leaf lengths from that byte on, or the given length not the total
+unfoldable pub cause5 : ℕ → List ℕ → Bool
+cause5 start s =
     let N : ℕ = leaves (familyOf s) in
     let K : ℕ = regionCount (familyOf s) in
-    not (eqb (numberAt s 10) lengthsOffset)
-    || not (eqb (numberAt s 12) (regionsOffset N))
-    || not (eqb (numberAt s 14) (totalLength N K))
+    not (eqb (numberAt s 10) start)
+    || not (eqb (numberAt s 12) (start + 2 * N))
+    || not (eqb (numberAt s 14) (start + 2 * N + 6 * K))
     || not (eqb (length s) (numberAt s 14))
 
 -- the leaf lengths do not add to m
@@ -69,26 +69,32 @@ unfoldable pub firstCause : List Cause → ℕ
 firstCause [] = 0
 firstCause (c ∷ cs) = cond (c .holds) (c .number) (firstCause cs)
 
--- what the header says
-unfoldable pub headerCauses : List ℕ → List Cause
-headerCauses s =
+-- what the counts and the offsets say, of a file with its leaf lengths from that byte on
+abbrev pub layoutCauses : ℕ → List ℕ → List Cause
+layoutCauses start s =
     let F : Family = familyOf s in
-    record { number = 1; holds = cause1 s }
-    ∷ record { number = 2; holds = cause2 (F .peptides) }
+    record { number = 2; holds = cause2 (F .peptides) }
     ∷ record { number = 3; holds = cause3 F }
     ∷ record { number = 4; holds = cause4 F }
-    ∷ record { number = 5; holds = cause5 s }
+    ∷ record { number = 5; holds = cause5 start s }
     ∷ []
+
+-- what the header says
+unfoldable pub headerCauses : List ℕ → List Cause
+headerCauses s = record { number = 1; holds = cause1 mark s } ∷ layoutCauses lengthsOffset s
+
+-- what the leaf lengths and the regions say, one by one
+abbrev pub listingCauses : Family → List Cause
+listingCauses F = record { number = 6; holds = cause6 F } ∷ record { number = 7; holds = cause7 F } ∷ []
 
 -- what the leaf lengths and the regions say
 unfoldable pub familyCauses : Family → List Cause
 familyCauses F =
-    record { number = 6; holds = cause6 F }
-    ∷ record { number = 7; holds = cause7 F }
-    ∷ record { number = 8; holds = cause8 F }
+    listingCauses F
+    ++ (record { number = 8; holds = cause8 F }
     ∷ record { number = 9; holds = cause9 F }
     ∷ record { number = 10; holds = cause10 F }
-    ∷ []
+    ∷ [])
 
 unfoldable pub fileCauses : List ℕ → List Cause
 fileCauses s = headerCauses s ++ familyCauses (familyOf s)

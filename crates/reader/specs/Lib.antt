@@ -6,5 +6,4 @@ pub mod Nesting
 pub mod Causes
 pub mod WellFormed
 pub mod Calls
-pub mod AcceptedCalls
 pub mod Private

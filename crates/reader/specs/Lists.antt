@@ -2,12 +2,24 @@
 use Prim.Native.Nat.{ℕ, zero, suc, _+_}
 use mathlib.Core.Bool.{Bool, true, false, cond, _&&_, _||_}
 use mathlib.Core.List.{List, [], _∷_}
+use mathlib.Core.Logic.{_⊎_}
+use mathlib.Core.Path.{_≡_}
 use lib.Dec.{eqb}
 
 -- f 0, f 1, .., f (n - 1)
 unfoldable pub tabulate : {A : Type 0} → ℕ → (ℕ → A) → List A
 tabulate zero f = []
 tabulate (suc n) f = f 0 ∷ tabulate n (λ i. f (suc i))
+
+-- x is an element of the list
+abbrev pub In : {A : Type 0} → A → List A → Type 0
+In x [] = ⊥
+In x (y ∷ L) = (x ≡ y) ⊎ In x L
+
+-- the elements that pass the test, as they stand in the list
+unfoldable pub those : {A : Type 0} → (A → Bool) → List A → List A
+those t [] = []
+those t (x ∷ xs) = cond (t x) (x ∷ those t xs) (those t xs)
 
 unfoldable pub sum : List ℕ → ℕ
 sum [] = 0

@@ -1,7 +1,7 @@
 // Bytes, and numbers of 2 bytes, low byte first.
 ghost use mathlib.Core.Path.{_≡_};
 ghost use mathlib.Core.List.{[], _∷_};
-ghost use Prim.Native.Nat.{_+_, _≤_, min};
+ghost use Prim.Native.Nat.{_+_, _*_, _≤_, min};
 ghost use lib.ListN.{length, getD, set};
 ghost use Rattle.reader.specs.Bytes.{numberAt, withNumbers};
 ghost use Rattle.reader.specs.Lists.{sameList};
@@ -13,14 +13,19 @@ fn byte_at(s: &[u8], at: usize) -> u8
     if at < s.len() { s[at] } else { 0 }
 }
 
+// The number that two bytes make, the low one first.
+pub fn number_of(low: u8, high: u8) -> u16
+    ensures { λ r. ⌜ r ≡ low + 256 * high ⌝ }
+{
+    (low as u16) + 256 * (high as u16)
+}
+
 // The number whose two bytes both lie in the slice.
 pub(crate) fn number_within(s: &[u8], at: usize) -> u16
     requires { ⌜ at + 2 ≤ length (now s) ⌝ }
     ensures { λ r. ⌜ r ≡ numberAt (now (s .entry)) at ⌝ }
 {
-    let low = s[at];
-    let high = s[at + 1];
-    (low as u16) + 256 * (high as u16)
+    number_of(s[at], s[at + 1])
 }
 
 // The number at an offset; what lies past the end counts as 0. One comparison settles both bytes of any but the last.
@@ -68,6 +73,23 @@ pub fn put_number(out: &mut [u8], at: usize, n: u16)
         put_within(out, at, n);
     } else {
         put_byte(out, at, (n % 256) as u8);
+    }
+}
+
+// Writes numbers in a row from an offset on; what lies past the end is not written.
+pub fn put_numbers(out: &mut [u8], at: usize, numbers: &[u16])
+    ensures { λ _. ⌜ now (out .exit) ≡ withNumbers (now (out .entry)) at (now (numbers .entry)) ⌝ }
+{
+    let end = out.len();
+    let mut place = at;
+    let mut i = 0;
+    while i < numbers.len() {
+        if end <= place {
+            return;
+        }
+        put_number(out, place, numbers[i]);
+        place += 2;
+        i += 1;
     }
 }
 

@@ -10,15 +10,16 @@ use crate::family::region_of;
 use crate::family::region_within;
 ghost use mathlib.Core.Path.{_≡_};
 ghost use mathlib.Core.Bool.{not};
+ghost use mathlib.Core.List.{_++_};
 ghost use Prim.Native.Nat.{_<_};
-ghost use Rattle.reader.specs.Family.{familyOf, leaves, regionCount, region};
+ghost use Rattle.reader.specs.Family.{familyOf, leaves, regionCount, region, mark};
 ghost use Rattle.reader.specs.Nesting.{before};
-ghost use Rattle.reader.specs.Causes.{cause1, cause5, cause6, cause7, cause8, misplaced, firstCause, headerCauses};
+ghost use Rattle.reader.specs.Causes.{cause1, cause5, cause6, cause7, cause8, misplaced, firstCause, layoutCauses, headerCauses, listingCauses};
 ghost use Rattle.reader.specs.Private.InPlace.{Whole};
 ghost use Rattle.reader.specs.Calls.{held};
 
 fn lacks_mark(file: &[u8]) -> bool
-    ensures { λ r. ⌜ r ≡ cause1 (now (file .entry)) ⌝ }
+    ensures { λ r. ⌜ r ≡ cause1 mark (now (file .entry)) ⌝ }
 {
     if file.len() < 16 {
         return true;
@@ -33,6 +34,13 @@ pub(crate) fn header_cause(file: &[u8]) -> u8
     if lacks_mark(file) {
         return 1;
     }
+    layout_cause(file, 16)
+}
+
+// The first of the causes 2 to 5 that holds, or 0, of a file with its leaf lengths from that byte on. The mark is not looked at.
+pub fn layout_cause(file: &[u8], lengths_at: u16) -> u8
+    ensures { λ r. ⌜ r ≡ firstCause (layoutCauses «lengths_at» (now (file .entry))) ⌝ }
+{
     let m = number_at(file, 4);
     let n = number_at(file, 6);
     let k = number_at(file, 8);
@@ -51,16 +59,30 @@ pub(crate) fn header_cause(file: &[u8]) -> u8
     if 2 * n - 1 < k {
         return 4;
     }
-    if bad_layout(file) { 5 } else { 0 }
+    if bad_layout(file, lengths_at) { 5 } else { 0 }
+}
+
+// The first of the causes 1 to 7 that holds, or 0: what a family file has to have before its regions are held against each other.
+pub fn listing_cause(file: &[u8]) -> u8
+    ensures { λ r. ⌜ r ≡ firstCause (headerCauses (now (file .entry)) ++ listingCauses (familyOf (now (file .entry)))) ⌝ }
+{
+    let header = header_cause(file);
+    if header != 0 {
+        return header;
+    }
+    if bad_lengths(file) {
+        return 6;
+    }
+    if misplaced_region(file) { 7 } else { 0 }
 }
 
 // An offset or the total not as laid down, or the given length not the total.
-fn bad_layout(file: &[u8]) -> bool
-    ensures { λ r. ⌜ r ≡ cause5 (now (file .entry)) ⌝ }
+fn bad_layout(file: &[u8], lengths_at: u16) -> bool
+    ensures { λ r. ⌜ r ≡ cause5 «lengths_at» (now (file .entry)) ⌝ }
 {
-    let regions_offset = 16 + 2 * (number_at(file, 6) as usize);
+    let regions_offset = (lengths_at as usize) + 2 * (number_at(file, 6) as usize);
     let total = regions_offset + 6 * (number_at(file, 8) as usize);
-    if number_at(file, 10) != 16 {
+    if number_at(file, 10) != lengths_at {
         return true;
     }
     if (number_at(file, 12) as usize) != regions_offset {

@@ -2,16 +2,11 @@
 use crate::bytes::number_at;
 use crate::bytes::number_within;
 use crate::bytes::smaller;
-use crate::leaf_walk::Passed;
-use crate::leaf_walk::leaf_by_leaf;
-use crate::leaf_walk::leaf_of_last;
-use crate::leaf_walk::leaf_of_sixteen;
-use crate::leaf_walk::pass_blocks;
 ghost use mathlib.Core.Path.{_≡_};
 ghost use Prim.Native.Nat.{_+_, _-_, _<_, _≤_};
 ghost use lib.ListN.{length};
 ghost use Rattle.reader.specs.Family.{familyOf, leaves, regionCount, leafLength, peptidesUpTo, noRegion, region, regionsOffset, totalLength};
-ghost use Rattle.reader.specs.Calls.{LeafAnswers, held};
+ghost use Rattle.reader.specs.Calls.{held};
 
 // The number of a leaf, 1 to N.
 pub struct Leaf(pub u16);
@@ -107,32 +102,6 @@ pub fn peptides_between(file: &[u8], after: Leaf, upto: Leaf) -> u32
         return added_one_by_one(file, start, end);
     }
     added_lengths(file, start, end)
-}
-
-// The leaf of a peptide, found by walking the leaf lengths; leaf 0 where they end before it. Fewer leaves than the smallest block
-// has are counted at once.
-pub fn leaf_of(file: &[u8], peptide: Peptide) -> Leaf
-    ensures { λ r. ⌜ LeafAnswers (now (file .entry)) (peptide .0) (r .0) ⌝ }
-{
-    let leaves = leaf_count(file);
-    let start = Passed {
-        leaf: Leaf(0),
-        left: peptide.0,
-    };
-    if file.len() < 16 + 2 * (leaves as usize) {
-        return leaf_by_leaf(file, start);
-    }
-    if leaves < 16 {
-        return leaf_of_last(file, start, leaves);
-    }
-    let far = pass_blocks(file, start, 8);
-    let near = pass_blocks(file, far, 2);
-    let rest = leaves - near.leaf.0;
-    if rest < 16 {
-        leaf_of_last(file, near, rest)
-    } else {
-        leaf_of_sixteen(file, near)
-    }
 }
 
 // The k-th region, where the file is known to have it: the check has compared the length with the header by then, and

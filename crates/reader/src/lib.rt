@@ -1,9 +1,8 @@
 // The family file: its bytes read and checked, its leaves, its regions and how they nest.
 // Every public call takes any bytes, and its promise is an equation on what it answers and leaves in a lent slice.
 pub mod bytes;
-mod causes;
+pub mod causes;
 pub mod family;
-mod leaf_walk;
 mod nesting;
 
 use causes::bad_lengths;

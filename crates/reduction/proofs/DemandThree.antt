@@ -97,7 +97,7 @@ pub record DemandThree : Type 0 where
 length-said : (f : AcceptedFile) → numberAt (reducedFile (f .file)) 14 ≡ length (reducedFile (f .file))
 length-said f =
     let s = reducedFile (f .file) in
-    let l = laid-down s (accepted-header s (reduced-accepted (f .file) (f .bytes) (f .accepted)) .no5) in
+    let l = laid-down 16 s (accepted-header s (reduced-accepted (f .file) (f .bytes) (f .accepted)) .no5) in
     omega arith
 
 module _ (f : AcceptedFile) (out : List ℕ) (room : length (f .file) ≤ length out) where

@@ -2,6 +2,7 @@
 // leaf lengths and the regions.
 use crate::Size;
 use reader::bytes::put_number;
+use reader::bytes::put_numbers;
 use reader::family::peptide_count;
 ghost use mathlib.Core.Path.{_≡_};
 ghost use mathlib.Core.List.{_++_};
@@ -15,18 +16,6 @@ ghost use Rattle.bounds.specs.Ranges.{card};
 ghost use Rattle.reduction.specs.Reduction.{leafLengths};
 ghost use Rattle.reduction.specs.Private.Steps.{Listed};
 ghost use Rattle.reduction.specs.Private.Writing.{headerNumbers, OnLine, endsAt, Marks, markedIn, regionNumbers, Wrote};
-
-// Writes numbers in a row.
-fn put_numbers(out: &mut [u8], at: usize, numbers: &[u16])
-    requires { ⌜ at + 2 * length (now numbers) ≤ length (now out) ⌝ }
-    ensures { λ _. ⌜ now (out .exit) ≡ withNumbers (now (out .entry)) at (now (numbers .entry)) ⌝ }
-{
-    let mut i = 0;
-    while i < numbers.len() {
-        put_number(out, at + 2 * i, numbers[i]);
-        i += 1;
-    }
-}
 
 fn put_mark(out: &mut [u8])
     requires { ⌜ 4 ≤ length (now out) ⌝ }

@@ -2,11 +2,12 @@
 //! one run. Prints the tables of docs/PERFORMANCE.md. Before anything is measured the two must answer the same.
 
 use phf_tests::families::{
-    all_but_one_empty, binary_tree, binary_tree_on, chain, chain_over_one_leaf, deepest_tree,
-    eight_peptides, family, has_empty_leaf, towers, Bounds, DEVIATION_SQUARED, EIGHT_P_VALUES,
+    all_but_one_empty, binary_tree, binary_tree_on, by_level, chain, chain_over_leaves,
+    chain_over_one_leaf, deepest_tree, eight_peptides, family, has_empty_leaf, level_file, listed,
+    towers, Bounds, DEVIATION_SQUARED, EIGHT_P_VALUES,
 };
 use phf_tests::random::Random;
-use phf_tests::reference::{check, file_of, Family, Region, Rule};
+use phf_tests::reference::{check, file_of, level_file_of, Family, Region, Rule};
 use phf_tests::searches::{counted_up_to, longest_searches, LEVEL};
 use phf_tests::stack::{every_call, Stack};
 use phf_tests::{fast, phf};
@@ -1097,6 +1098,124 @@ fn hybrid_growth_table() {
     }
 }
 
+type Convert = fn(&[u8], &mut [u8]) -> phf::Converted;
+
+/// A conversion of the library and its like in Rust.
+struct Conversion {
+    name: &'static str,
+    library: Convert,
+    rust: Convert,
+}
+
+const TO_LEVELS: Conversion = Conversion {
+    name: "to levels",
+    library: phf::to_levels,
+    rust: fast::to_levels,
+};
+
+const FROM_LEVELS: Conversion = Conversion {
+    name: "from levels",
+    library: phf::from_levels,
+    rust: fast::from_levels,
+};
+
+impl Conversion {
+    /// Both tell the same, write the same, and leave what lies beyond; the number.
+    fn agree(&self, file: &[u8]) -> u16 {
+        let (mut one, mut other) = (vec![9; 57_500], vec![9; 57_500]);
+        let answer = (self.library)(file, &mut one);
+        assert_eq!(answer, (self.rust)(file, &mut other));
+        assert_eq!(one, other);
+        answer.number
+    }
+
+    /// Nanoseconds of the library and of the Rust twin.
+    fn times(&self, file: &[u8]) -> (f64, f64) {
+        let (mut one, mut other) = (vec![0; 57_482], vec![0; 57_482]);
+        let found = measure(&mut [
+            &mut || {
+                black_box((self.library)(black_box(file), &mut one));
+            },
+            &mut || {
+                black_box((self.rust)(black_box(file), &mut other));
+            },
+        ]);
+        (found[0], found[1])
+    }
+}
+
+/// Files by level that are made to keep the conversion busy, each with the number that it is declined by.
+fn hostile_files_by_level(largest: &Family) -> Vec<(&'static str, u16, Vec<u8>)> {
+    let in_one_level = |regions: Vec<(u16, u16, u16)>| {
+        let count = regions.len() as u16;
+        level_file_of(&listed(&[1; 4096], &regions, &[count]))
+    };
+    let mut deeper = by_level(largest);
+    deeper.counts[12] -= 1;
+    deeper.counts[13] += 1;
+    vec![
+        (
+            "8,191 equal regions",
+            27,
+            in_one_level(vec![(1, 4096, 1); 8191]),
+        ),
+        (
+            "4,096 nested",
+            10,
+            in_one_level((1..=4096).rev().map(|last| (1, last, 1)).collect()),
+        ),
+        (
+            "2,048 that all cross",
+            9,
+            in_one_level((1..=2048).map(|i| (i, i + 2048, 1)).collect()),
+        ),
+        (
+            "largest, the last region told a level too deep",
+            27,
+            level_file_of(&deeper),
+        ),
+    ]
+}
+
+/// Whether no row with 2,048 regions or more is over 1.2 times the Rust one.
+fn levels_table() -> bool {
+    println!("| call | family | N | K | number | library µs | Rust µs | ratio |");
+    println!("|---|---|---|---|---|---|---|---|");
+    let largest = binary_tree(&mut Random::new(14), 4096, 1, Bounds::Mixed);
+    let families = [
+        ("course, m = 8", eight_peptides()),
+        ("largest, 13 levels", largest.clone()),
+        ("64 levels, each leaf", chain_over_leaves(4096, 64, 9)),
+        ("4,096 leaves, no region", family(&[1; 4096], &[])),
+    ];
+    let mut rows = Vec::new();
+    for (name, family) in &families {
+        rows.push((TO_LEVELS, *name, 0, file_of(family)));
+    }
+    for (name, family) in &families {
+        rows.push((FROM_LEVELS, *name, 0, level_file(family)));
+    }
+    for (name, number, file) in hostile_files_by_level(&largest) {
+        rows.push((FROM_LEVELS, name, number, file));
+    }
+    let mut all_near = true;
+    for (conversion, name, number, file) in rows {
+        assert_eq!(conversion.agree(&file), number);
+        let (library, rust) = conversion.times(&file);
+        let ratio = library / rust;
+        let regions = u16::from_le_bytes([file[8], file[9]]);
+        all_near &= ratio <= 1.2 || regions < 2048;
+        println!(
+            "| {} | {name} | {} | {regions} | {number} | {} | {} | {ratio:.2} |",
+            conversion.name,
+            u16::from_le_bytes([file[6], file[7]]),
+            micro(library),
+            micro(rust)
+        );
+    }
+    all_near
+}
+
 /// The stack that each call needs: the most of several large families.
 fn stack_table() {
     println!("| call | bytes of stack used | KB stated |");
@@ -1140,6 +1259,8 @@ fn main() {
     let met = hybrid_met && from_p_met && selections_met && lists_met && calls_met;
     println!();
     hybrid_growth_table();
+    println!("\n### Families by level\n");
+    let levels_near = levels_table();
     println!("\n### The walk\n");
     walk_table();
     println!("\n### The experiment of the source\n");
@@ -1153,7 +1274,7 @@ fn main() {
     println!(
         "\nNo call over 1.5 times the Rust one: {met}. 32 selections of 4,096 peptides at most 1.2 times the Rust list: {near}, and \
          at most 0.9 of 32 calls: {shorter}. The Simes part takes no longer than the curve with 4,096 leaves and steps: {within}. \
-         Worst check: {} µs.",
+         No conversion of 2,048 regions or more over 1.2 times the Rust one: {levels_near}. Worst check: {} µs.",
         micro(worst)
     );
 }

@@ -1,7 +1,7 @@
 /*
  * The eight-peptide family from C: every call, what it writes, and every number by its name. The expected values are those
  * of the scope document. Then lists of selections, a family with leaves without a peptide, peptides chosen by their rows, bounds
- * from p-values and hybrid curves, whose values are derived beside them.
+ * from p-values, hybrid curves and the file by level, whose values are derived beside them.
  * Compiled as C99 and as C++11. Prints `ok`, or the first line that does not hold.
  */
 #include <math.h>
@@ -469,6 +469,107 @@ static void put(uint8_t *file, size_t at, size_t number)
     file[at + 1] = (uint8_t)(number >> 8);
 }
 
+/*
+ * The eight-peptide family by level. (1,2) and (3,4) have no region around them; (1,1) and (2,2) have (1,2), and (4,4) has (3,4):
+ * two regions of level 1 and three of level 2. Header and level counts take 144 bytes, four leaf lengths 8 and five regions 30.
+ */
+static void put_by_level(uint8_t *file)
+{
+    const uint8_t header[20] = {0x50, 0x48, 0x46, 0x4C, 8, 0, 4, 0, 5, 0, 144, 0, 152, 0, 182, 0, 2, 0, 3, 0};
+    const uint8_t rest[38] = {
+        2, 0, 3, 0, 1, 0, 2, 0,
+        1, 0, 2, 0, 3, 0,
+        3, 0, 4, 0, 3, 0,
+        1, 0, 1, 0, 2, 0,
+        2, 0, 2, 0, 1, 0,
+        4, 0, 4, 0, 0, 0};
+    memset(file, 0, 182);
+    memcpy(file, header, sizeof header);
+    memcpy(file + 144, rest, sizeof rest);
+}
+
+static void levels(void)
+{
+    uint8_t expected[182];
+    uint8_t out[184];
+    uint8_t back[56];
+    phf_converted answer;
+    HOLDS(sizeof(phf_converted) == 4);
+    HOLDS(offsetof(phf_converted, number) == 0 && offsetof(phf_converted, length) == 2);
+    HOLDS(PHF_MOST_BYTES_BY_LEVEL == PHF_MOST_BYTES + 2 * PHF_MOST_LEVELS);
+    put_by_level(expected);
+    memset(out, 77, sizeof out);
+    answer = phf_to_levels(eight, sizeof eight, out, sizeof out);
+    HOLDS(answer.number == PHF_DONE && answer.length == 182);
+    HOLDS(memcmp(out, expected, sizeof expected) == 0 && out[182] == 77 && out[183] == 77);
+    memset(back, 77, sizeof back);
+    answer = phf_from_levels(out, answer.length, back, sizeof back);
+    HOLDS(answer.number == PHF_DONE && answer.length == 54);
+    HOLDS(memcmp(back, eight, sizeof eight) == 0 && back[54] == 77 && back[55] == 77);
+}
+
+/* What is said of the file by level with another number at an offset. */
+static uint16_t level_number(size_t at, size_t number, size_t file_len, size_t room)
+{
+    uint8_t file[182];
+    uint8_t out[54];
+    phf_converted answer;
+    size_t i;
+    put_by_level(file);
+    put(file, at, number);
+    memset(out, 77, sizeof out);
+    answer = phf_from_levels(file, file_len, out, room);
+    if (answer.number != PHF_DONE) {
+        HOLDS(answer.length == 0);
+        for (i = 0; i < sizeof out; i++)
+            HOLDS(out[i] == 77);
+    }
+    return answer.number;
+}
+
+static void levels_decline(void)
+{
+    uint8_t file[182];
+    uint8_t out[182];
+    phf_converted answer;
+    put_by_level(file);
+    memset(out, 77, sizeof out);
+    HOLDS(phf_to_levels(NULL, 0, NULL, 0).number == PHF_NOT_A_FAMILY_FILE);
+    HOLDS(phf_from_levels(NULL, 0, NULL, 0).number == PHF_NOT_A_FAMILY_FILE);
+    /* the file of the one is none for the other, and for every other call */
+    HOLDS(phf_to_levels(file, sizeof file, out, sizeof out).number == PHF_NOT_A_FAMILY_FILE);
+    HOLDS(phf_from_levels(eight, sizeof eight, out, sizeof out).number == PHF_NOT_A_FAMILY_FILE);
+    HOLDS(phf_check(file, sizeof file).number == PHF_NOT_A_FAMILY_FILE);
+    HOLDS(phf_same(eight, sizeof eight, file, sizeof file).number == PHF_OF_SECOND_FILE + PHF_NOT_A_FAMILY_FILE);
+    HOLDS(phf_to_levels(eight, 53, out, 0).number == PHF_BAD_LAYOUT);
+    answer = phf_to_levels(eight, sizeof eight, out, 181);
+    HOLDS(answer.number == PHF_SHORT_OUTPUT && answer.length == 0);
+    HOLDS(out[0] == 77 && out[16] == 77 && out[181] == 77);
+    HOLDS(level_number(4, 8, 182, 54) == PHF_DONE);
+    HOLDS(level_number(4, 8, 15, 54) == PHF_NOT_A_FAMILY_FILE);
+    HOLDS(level_number(4, 8, 16, 54) == PHF_BAD_LAYOUT);
+    HOLDS(level_number(4, 0, 16, 54) == PHF_BAD_PEPTIDE_COUNT);
+    HOLDS(level_number(6, 4097, 182, 54) == PHF_BAD_LEAF_COUNT);
+    HOLDS(level_number(8, 8, 182, 54) == PHF_TOO_MANY_REGIONS);
+    HOLDS(level_number(10, 16, 182, 54) == PHF_BAD_LAYOUT);
+    HOLDS(level_number(144, 3, 182, 54) == PHF_BAD_LEAF_LENGTHS);
+    HOLDS(level_number(154, 5, 182, 54) == PHF_BAD_REGION_LEAVES);
+    /* (3,4) becomes (2,4), which crosses (1,2) */
+    HOLDS(level_number(158, 2, 182, 54) == PHF_REGIONS_CROSS);
+    HOLDS(level_number(4, 8, 182, 53) == PHF_SHORT_OUTPUT);
+    HOLDS(level_number(16, 1, 182, 53) == PHF_SHORT_OUTPUT);
+    HOLDS(level_number(16, 1, 182, 54) == PHF_BAD_LEVEL_COUNTS);
+    HOLDS(level_number(142, 1, 182, 54) == PHF_BAD_LEVEL_COUNTS);
+    /* (4,4) becomes (3,4), which is listed in level 1; (1,1) becomes (1,2) */
+    HOLDS(level_number(176, 3, 182, 54) == PHF_REGIONS_NOT_BY_LEVEL);
+    HOLDS(level_number(166, 2, 182, 54) == PHF_REGIONS_NOT_BY_LEVEL);
+    /* of level 1 are told one, and of level 2 four */
+    file[16] = 1;
+    file[18] = 4;
+    answer = phf_from_levels(file, sizeof file, out, sizeof out);
+    HOLDS(answer.number == PHF_REGIONS_NOT_BY_LEVEL && answer.length == 0 && out[0] == 77);
+}
+
 /* What the check says of the eight-peptide family with another number at an offset. */
 static uint16_t number_with(size_t at, size_t number)
 {
@@ -561,6 +662,8 @@ int main(void)
     bounds_from_p_declines();
     hybrid();
     hybrid_declines();
+    levels();
+    levels_decline();
     numbers_of_files();
     numbers_of_other_inputs();
     if (failures == 0)

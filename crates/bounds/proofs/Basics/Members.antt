@@ -1,22 +1,11 @@
 -- Tests read as facts; the members of a list, searches through it, and sums over it.
 --   test .. or-either     laws of tests, handed on from reader's Bools: its head says what each says
---   le-or-lt              of two numbers the first is at most the second, or the second is smaller
---   bit                   1 if the test holds, else 0
---   bit-few               it is at most 1
---   eqb-bit               it is 1 exactly if the test holds
---   bit-mono              a test that passes only if another does has no larger bit
---   Place                 where a member stands
---   place                 every member stands somewhere
---   in-at                 what stands at a place of the list is a member
---   in-append             a member of two lists joined is a member of one of them
+--   le-or-lt .. those-same   laws of the members of a list, handed on from reader's Members
 --   Found                 what a search finds: a member that passes the test
 --   some-in, some-found   a search passes if a member does, and one that passes has found a member
 --   nowhere-facts         where `not (some t L)` passes, no member passes
 --   nowhere-holds         where no member passes, `not (some t L)` does
 --   search-for            a search is a choice: a member that passes, or none does
---   in-those              a member that passes is among `those`
---   those-in              what is among `those` is a member, and passes
---   those-same            tests that agree on the members choose the same list
 --   sum-mono              with no term larger the sum is not larger
 --   sum-same              with all terms the same the sum is the same
 --   sum-less              one term smaller, and none larger: the sum is smaller
@@ -31,50 +20,10 @@ use lib.Dec.{eqb, leb}
 use lib.ListN.{length, getD}
 use borrow.Author.Tests.{leb-true, leb-false, not-true}
 pub use Rattle.reader.proofs.Bools.{test, clash, refuted, both-ways, and-l, and-r, and-both, ands, or-l, or-r, or-either}
+pub use Rattle.reader.proofs.Members.{le-or-lt, bit, bit-few, bit-mono, eqb-bit, Place, place, in-at, in-append, in-those, those-in, those-same}
 use Rattle.bounds.specs.Ranges.{some, those, sumOver, In}
 
--- Tests.
-
-pub le-or-lt : (a b : ℕ) → (a ≤ b) ⊎ (b < a)
-le-or-lt a b = ⊎-elim (λ e. inl (leb-true a b e)) (λ e. inr (leb-false a b e)) (test (leb a b))
-
-abbrev pub bit : Bool → ℕ
-bit b = cond b 1 0
-
-pub bit-few : (b : Bool) → bit b ≤ 1
-bit-few true = omega arith
-bit-few false = omega arith
-
-pub bit-mono : (a b : Bool) → (a ≡ true → b ≡ true) → bit a ≤ bit b
-bit-mono true b h = rw (h refl) (omega arith)
-bit-mono false b h = omega arith
-
-pub eqb-bit : (b : Bool) → eqb (bit b) 1 ≡ b
-eqb-bit true = refl
-eqb-bit false = refl
-
--- Members of a list.
-
-pub in-append : {A : Type 0} (x : A) (L M : List A) → In x (L ++ M) → In x L ⊎ In x M
-in-append x [] M i = inr i
-in-append x (y ∷ L) M (inl e) = inl (inl e)
-in-append x (y ∷ L) M (inr i) = ⊎-elim (λ j. inl (inr j)) inr (in-append x L M i)
-
 module _ {A : Type 0} where
-  pub record Place (x : A) (L : List A) (d : A) : Type 0 where
-    pub at : ℕ
-    pub inRange : at < length L
-    pub there : x ≡ getD L at d
-
-  pub place : (d : A) (L : List A) (x : A) → In x L → Place x L d
-  place d (y ∷ L) x (inl e) = record { at = 0; inRange = omega arith; there = e }
-  place d (y ∷ L) x (inr i) = let p = place d L x i in record { at = suc (p .at); inRange = omega arith; there = p .there }
-
-  pub in-at : (d : A) (L : List A) (k : ℕ) → k < length L → In (getD L k d) L
-  in-at d [] k h = absurd (omega arith)
-  in-at d (y ∷ L) zero h = inl refl
-  in-at d (y ∷ L) (suc k) h = inr (in-at d L k (omega arith))
-
   -- Searches.
 
   pub record Found (t : A → Bool) (L : List A) : Type 0 where
@@ -104,34 +53,6 @@ module _ {A : Type 0} where
 
   pub search-for : (t : A → Bool) (L : List A) → Found t L ⊎ ((x : A) → In x L → t x ≡ true → ⊥)
   search-for t L = ⊎-elim (λ e. inl (some-found t L e)) (λ e. inr (nowhere-facts t L (ap not e))) (test (some t L))
-
-  -- The members that pass a test.
-
-  -- `those` puts an element before the rest if it passes
-  put : (b : Bool) (y : A) (L : List A) (x : A) → In x L → In x (cond b (y ∷ L) L)
-  put true y L x i = inr i
-  put false y L x i = i
-
-  unput : (b : Bool) (y : A) (L : List A) (x : A) → In x (cond b (y ∷ L) L) → ((x ≡ y) × (b ≡ true)) ⊎ In x L
-  unput true y L x (inl e) = inl (e, refl)
-  unput true y L x (inr i) = inr i
-  unput false y L x i = inr i
-
-  pub in-those : (t : A → Bool) (L : List A) (x : A) → In x L → t x ≡ true → In x (those t L)
-  unfolding those
-  in-those t (y ∷ L) x (inl e) h = rw (rw e at h) (inl e)
-  in-those t (y ∷ L) x (inr i) h = put (t y) y (those t L) x (in-those t L x i h)
-
-  pub those-in : (t : A → Bool) (L : List A) (x : A) → In x (those t L) → In x L × (t x ≡ true)
-  unfolding those
-  those-in t [] x i = absurd i
-  those-in t (y ∷ L) x i =
-      ⊎-elim (λ f. (inl (f .0), rw (f .0) (f .1))) (λ j. let f = those-in t L x j in (inr (f .0), f .1)) (unput (t y) y (those t L) x i)
-
-  pub those-same : (t u : A → Bool) (L : List A) → ((x : A) → In x L → t x ≡ u x) → those t L ≡ those u L
-  unfolding those
-  those-same t u [] h = refl
-  those-same t u (y ∷ L) h = cc (h y (inl refl), those-same t u L (λ x i. h x (inr i)))
 
   -- Sums.
 

@@ -1,16 +1,13 @@
 -- How many elements of a list pass a test.
---   those-all      all of a list pass a test that always passes
---   those-first    the first element and the rest
---   those-last     the last element and those before it
 --   those-fewer    a test that passes only if another does passes no more
 --   some-those     where a member passes, it is not 0
 --   those-some     where it is not 0, a member passes
 --   part-counted   the elements of a list from place low to before place high, counted by their places
 use Prim.Native.Nat.{ℕ, zero, suc, _+_, _-_, _<_, _≤_, min}
-use mathlib.Core.Bool.{Bool, true, false, cond, _&&_}
-use mathlib.Core.List.{List, [], _∷_, _++_}
+use mathlib.Core.Bool.{Bool, true, false, _&&_}
+use mathlib.Core.List.{List, [], _∷_}
 use mathlib.Core.Logic.{inl, inr, ⊎-elim}
-use mathlib.Core.Path.{_≡_, refl, ap}
+use mathlib.Core.Path.{_≡_, refl}
 use native.Mathlib.Omega.{arith}
 use lib.ListN.{length, getD, take, drop, length-drop}
 use lib.Seq.{take-suc, getD-drop}
@@ -18,29 +15,12 @@ use lib.Dec.{leb, ltb}
 use borrow.Author.Tests.{ltb-false, leb-false}
 use Rattle.reader.specs.Lists.{countBelow}
 use Rattle.reader.proofs.Bools.{and-fails}
+use Rattle.sorting.proofs.Those.{those-first, those-last}
 use Rattle.bounds.specs.Ranges.{Range, In, has, those}
 use Rattle.bounds.proofs.Basics.Members.{test, bit, bit-mono, Found, in-those, those-in}
 use Rattle.bounds.proofs.Basics.Nesting.{has-facts}
 
-pub those-all : {A : Type 0} (L : List A) → those (λ x. true) L ≡ L
-unfolding those
-those-all [] = refl
-those-all (x ∷ L) = ap (λ M. x ∷ M) (those-all L)
-
 module _ {A : Type 0} (t : A → Bool) where
-  pub those-first : (x : A) (L : List A) → length (those t (x ∷ L)) ≡ bit (t x) + length (those t L)
-  unfolding those
-  those-first x L = go (t x)
-    where
-      go : (b : Bool) → length (cond b (x ∷ those t L) (those t L)) ≡ bit b + length (those t L)
-      go true = omega arith
-      go false = omega arith
-
-  pub those-last : (L : List A) (x : A) → length (those t (L ++ (x ∷ []))) ≡ length (those t L) + bit (t x)
-  unfolding those
-  those-last [] x = omega (arith, those-first x [])
-  those-last (y ∷ L) x = omega (arith, those-first y (L ++ (x ∷ [])), those-first y L, those-last L x)
-
   pub some-those : (x : A) (L : List A) → In x L → t x ≡ true → 0 < length (those t L)
   some-those x L i h = member (those t L) (in-those t L x i h)
     where

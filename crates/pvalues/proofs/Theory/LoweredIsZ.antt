@@ -16,17 +16,19 @@ use borrow.Author.Tests.{eqb-true, eq-eqb, lt-ltb, le-ltb}
 use Rattle.reader.specs.Lists.{countBelow}
 use Rattle.reader.specs.Family.{Family, regionCount, region}
 use Rattle.reader.specs.WellFormed.{WellFormed}
+use Rattle.sorting.proofs.Those.{those-all, those-first}
+use Rattle.sorting.proofs.ByKey.{Rising}
 use Rattle.bounds.specs.Ranges.{In, rangeOf, rangeAt, those}
 use Rattle.bounds.specs.Curves.{largestUpTo}
 use Rattle.bounds.proofs.Basics.Members.{test, both-ways, le-or-lt, and-l, and-r, and-both, bit, in-those, those-same}
 use Rattle.bounds.proofs.Walking.Steps.{largest-same}
 use Rattle.bounds.proofs.Theory.Family.{leaf-most}
 use Rattle.pvalues.specs.FromP.{million, gap, over, passes, passesAt, thresholds, every, zOf, regionPValues}
-use Rattle.pvalues.specs.Private.Ordering.{pValue, Rising, InOrder}
+use Rattle.pvalues.specs.Private.Ordering.{pValue, InOrder}
 use Rattle.pvalues.specs.Private.Lowering.{lowerAlong, hasAt, sizeAt, zAt, PValues}
 use Rattle.pvalues.proofs.Theory.Passing.{passes-zero, passes-top, passes-few, passes-gap, passes-over, passes-down}
 use Rattle.pvalues.proofs.Theory.Largest.{largest-here, largest-twice}
-use Rattle.pvalues.proofs.Theory.Counted.{those-all, those-first, those-fewer, some-those, those-some, part-counted}
+use Rattle.pvalues.proofs.Theory.Counted.{those-fewer, some-those, those-some, part-counted}
 use Rattle.pvalues.proofs.Theory.ZLaws.{every-at, every-holds}
 
 module _ (C : ℕ) (ps : List ℕ) (X : ℕ → Bool) where
@@ -127,7 +129,7 @@ module _ (C : ℕ) (ps order : List ℕ) (X : ℕ → Bool) (rs : List ℕ) (ris
     (counted : (f : ℕ → Bool) → length (those f rs) ≡ length (those (λ i. X i && f (pValue ps i)) order)) where
   all-counted : length rs ≡ length (those X order)
   all-counted =
-      ap length (sym (those-all rs))
+      ap length (sym (those-all (λ p. true) rs (λ p i. refl)))
       ∙ counted (λ p. true)
       ∙ ap length (those-same (λ i. X i && true) X order (λ i m. and-true (X i)))
 

@@ -17,6 +17,7 @@ use Rattle.reader.specs.Family.{Family, regionCount, region}
 use Rattle.reader.specs.Nesting.{regionWithin}
 use Rattle.reader.specs.WellFormed.{WellFormed}
 use Rattle.reader.proofs.Walk.{upTo-mono}
+use Rattle.sorting.proofs.Those.{those-all}
 use Rattle.bounds.specs.Ranges.{those, rangeOf, rangeAt}
 use Rattle.bounds.proofs.Basics.Members.{and-l, and-r, and-both, bit-mono}
 use Rattle.bounds.proofs.Basics.Nesting.{has-facts, has-holds}
@@ -24,7 +25,6 @@ use Rattle.pvalues.specs.FromP.{million, gap, over, excess, passes, pass
 use Rattle.pvalues.specs.Private.Ordering.{pValue}
 use Rattle.pvalues.specs.Private.Lowering.{hasAt, zAt}
 use Rattle.pvalues.proofs.Theory.Passing.{passes-is, passes-over}
-use Rattle.pvalues.proofs.Theory.Counted.{those-all}
 use Rattle.pvalues.proofs.Theory.ZLaws.{z-is, z-most, passes-everywhere}
 use Rattle.pvalues.proofs.Theory.LoweredIsZ.{region-counted}
 
@@ -79,5 +79,5 @@ module _ {F : Family} (w : WellFormed F) (ps qs : List ℕ) (fewer : length ps �
   unfolding over
   region-no-smaller C =
       z-over C (regionPValues F ps (region F j)) (regionPValues F qs (region F k))
-      (rw (those-all (regionPValues F ps (region F j)), those-all (regionPValues F qs (region F k))) at (counted (λ p. true) (λ x y l e. refl)))
+      (rw (those-all (λ p. true) (regionPValues F ps (region F j)) (λ p i. refl), those-all (λ p. true) (regionPValues F qs (region F k)) (λ p i. refl)) at (counted (λ p. true) (λ x y l e. refl)))
       (λ t. counted (λ p. ltb t p) (λ x y l e. lt-ltb t y (omega (arith, ltb-true t x e))))

@@ -1,45 +1,31 @@
--- Two bytes make a number below 65,536.
-use native.Mathlib.Omega.{arith}
-use Prim.Native.Nat.{_+_}
+-- The two bytes from the offset on make the number there.
 use Rattle.reader.specs.Bytes.{numberAt}
 use borrow.Author.Needs.{needs}
 use Rattle.reader.proofs.bytes.number_within.Statement.{statement}
 use Rattle.reader.proofs.bytes.number_within.Tie as tie
 
-shared-slice-read-low : tie.Need-shared-slice-read-low
-shared-slice-read-low c = search needs
+shared-slice-read-number-of : tie.Need-shared-slice-read-number-of
+shared-slice-read-number-of c = search needs
 
-add-high : tie.Need-add-high
-add-high c = search needs
+add-number-of : tie.Need-add-number-of
+add-number-of c = search needs
 
-shared-slice-read-high : tie.Need-shared-slice-read-high
-shared-slice-read-high c = search needs
+shared-slice-read-number-of-2 : tie.Need-shared-slice-read-number-of-2
+shared-slice-read-number-of-2 c = search needs
 
-cast-result : tie.Need-cast-result
-cast-result c = omega (arith, c .before .shared-slice-known .given (c .before .before .args .at))
-
-cast-result-2 : tie.Need-cast-result-2
-cast-result-2 c = omega (arith, c .shared-slice-known2 .given (c .before .before .args .at + 1))
-
-mul-result : tie.Need-mul-result
-mul-result c = omega (arith, c .shared-slice-known2 .given (c .before .before .args .at + 1))
-
-add-result : tie.Need-add-result
-add-result c = omega (arith, c .before .shared-slice-known .given (c .before .before .args .at), c .shared-slice-known2 .given (c .before .before .args .at + 1))
+number-of-requires : tie.Need-number-of-requires
+number-of-requires c κs = search needs
 
 returns : tie.Need-returns
 unfolding numberAt
-returns c = omega arith
+returns c = c .number-of .ensures
 
 pub number-within-spec : {M : Type 1} → statement M
 number-within-spec =
     tie.close
     (tie.spec
-    shared-slice-read-low
-    add-high
-    shared-slice-read-high
-    cast-result
-    cast-result-2
-    mul-result
-    add-result
+    shared-slice-read-number-of
+    add-number-of
+    shared-slice-read-number-of-2
+    number-of-requires
     returns)

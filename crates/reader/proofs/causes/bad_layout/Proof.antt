@@ -40,7 +40,7 @@ number-at-requires-3 : tie.Need-number-at-requires-3
 number-at-requires-3 c κs = search needs
 
 returns : tie.Need-returns
-returns c = sym (passes _ (λ f. c .if1 .taken (omega (arith, laid-down (now (c .before .before .before .before .before .args .file)) f))))
+returns c = sym (passes _ (λ f. c .if1 .taken (omega (arith, laid-down _ (now (c .before .before .before .before .before .args .file)) f))))
 
 number-at-requires-4 : tie.Need-number-at-requires-4
 number-at-requires-4 c κs = search needs
@@ -49,7 +49,7 @@ cast-if2 : tie.Need-cast-if2
 cast-if2 c = search needs
 
 returns-2 : tie.Need-returns-2
-returns-2 c = sym (passes _ (λ f. c .if2 .taken (omega (arith, laid-down (now (c .before .before .before .before .before .before .before .args .file)) f))))
+returns-2 c = sym (passes _ (λ f. c .if2 .taken (omega (arith, laid-down _ (now (c .before .before .before .before .before .before .before .args .file)) f))))
 
 number-at-requires-5 : tie.Need-number-at-requires-5
 number-at-requires-5 c κs = search needs
@@ -58,12 +58,12 @@ cast-if3 : tie.Need-cast-if3
 cast-if3 c = search needs
 
 returns-3 : tie.Need-returns-3
-returns-3 c = sym (passes _ (λ f. c .if3 .taken (omega (arith, laid-down (now (c .before .before .before .before .before .before .before .before .before .args .file)) f))))
+returns-3 c = sym (passes _ (λ f. c .if3 .taken (omega (arith, laid-down _ (now (c .before .before .before .before .before .before .before .before .before .args .file)) f))))
 
 returns-4 : tie.Need-returns-4
 returns-4 c =
     let s = now (c .before .before .before .before .before .before .before .before .before .args .file) in
-    ap (λ (t : ℕ). not (eqb (length s) t)) (omega arith) ∙ sym (length-laid-down s (omega arith) (omega arith) (omega arith))
+    ap (λ (t : ℕ). not (eqb (length s) t)) (omega arith) ∙ sym (length-laid-down _ s (omega arith) (omega arith) (omega arith))
 
 pub bad-layout-spec : {M : Type 1} → statement M
 bad-layout-spec =

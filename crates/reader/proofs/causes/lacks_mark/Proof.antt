@@ -14,7 +14,7 @@ use Rattle.reader.proofs.causes.lacks_mark.Statement.{statement}
 use Rattle.reader.proofs.causes.lacks_mark.Tie as tie
 
 returns : tie.Need-returns
-returns c = sym (passes _ (λ f. omega (arith, mark-there (now (c .before .before .args .file)) f .0)))
+returns c = sym (passes _ (λ f. omega (arith, mark-there mark (now (c .before .before .args .file)) f .0)))
 
 sub-same-bytes : tie.Need-sub-same-bytes
 sub-same-bytes c = search needs

@@ -1,0 +1,23 @@
+-- The fields of the answer of `from_levels`; the output is the library's.
+use mathlib.Core.Path.{ap, _∙_}
+use Rattle.phf.specs.Fields.{convertedFields}
+use borrow.Author.Needs.{needs}
+use Rattle.phf.proofs.phf_from_levels.Statement.{statement}
+use Rattle.phf.proofs.phf_from_levels.Tie as tie
+
+from-levels-requires : tie.Need-from-levels-requires
+from-levels-requires c κs = search needs
+
+converted-requires : tie.Need-converted-requires
+converted-requires c κs = search needs
+
+same-length : tie.Need-same-length
+same-length c = search needs
+
+returns : tie.Need-returns
+returns c =
+    let told = c .before .before .before .from-levels .ensures in
+    (c .converted .ensures ∙ ap convertedFields (told .0), told .1)
+
+pub phf-from-levels-spec : {M : Type 1} → statement M
+phf-from-levels-spec = tie.close (tie.spec from-levels-requires converted-requires same-length returns)

@@ -1,3 +1,0 @@
--- Sorting by counting.
-pub mod ByKey
-pub mod Passes
