@@ -32,7 +32,7 @@
  *     phf_hybrid                                                    56 KB
  *     phf_reduce                                                   156 KB
  *     phf_same                                                     268 KB
- *     phf_to_levels                                                 68 KB
+ *     phf_to_levels                                                 44 KB
  *     phf_from_levels                                              140 KB
  *     phf_choose_at_most, phf_choose_between, phf_choose_volcano     4 KB
  *

@@ -172,7 +172,7 @@ pub fn every_call<'a>(file: &'a [u8], path: &'a [u16]) -> Vec<Call<'a>> {
     let mut by_level = vec![0; 57482];
     add(
         "phf_to_levels",
-        68,
+        44,
         Box::new(move || phf::to_levels(file, &mut by_level).number),
     );
     let leveled = level_file(&read(file, b"PHFB", 16).unwrap());
