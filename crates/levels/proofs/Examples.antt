@@ -8,7 +8,7 @@ use Rattle.reader.specs.Lists.{tabulate, sum, sameList, someBelow, countBelow, 
 use Rattle.reader.specs.Bytes.{numberAt, bytesOf}
 use Rattle.reader.specs.Family.{Region, Family, region, lengthAt, regionAt, familyOf, regionFields, fields, mark, fileOf}
 use Rattle.reader.specs.Nesting.{before, shareLeaf, regionWithin, crossing, regionInside}
-use Rattle.reader.specs.Causes.{cause1, cause2, cause3, cause4, cause5, cause6, cause7, cause8, cause9, cause10, misplaced, firstCause, headerCauses, familyCauses, fileCauses, listingCauses}
+use Rattle.reader.specs.Causes.{cause1, cause2, cause3, cause4, cause5, cause6, cause7, cause8, cause9, cause10, misplaced, firstCause, headerCauses, familyCauses, fileCauses}
 use Rattle.reader.specs.Calls.{short}
 use Rattle.reader.proofs.Examples.{eight, eightFile}
 use Rattle.sorting.specs.ByKey.{byKey}

@@ -7,7 +7,6 @@ use mathlib.Core.Path.{_≡_, refl, sym, ap, _∙_}
 use mathlib.Core.Logic.{⊎-elim, _↔_}
 use lib.ListN.{length, getD, take, drop, List·getD-append}
 use lib.Seq.{take-append-seam, drop-append-seam}
-use lib.Dec.{eqb, ltb}
 use lib.Ieee.{Float, lt, le, isNan}
 use borrow.Author.Tests.{le-ltb}
 use Rattle.reader.specs.Family.{familyOf, regionCount}

@@ -10,18 +10,17 @@
 --   sum-same              with all terms the same the sum is the same
 --   sum-less              one term smaller, and none larger: the sum is smaller
 --   sum-ones              a 1 for each member adds up to the length
-use Prim.Native.Nat.{ℕ, zero, suc, _≤_, _<_}
-use mathlib.Core.Bool.{Bool, true, false, not, cond}
-use mathlib.Core.List.{List, [], _∷_, _++_}
+use Prim.Native.Nat.{ℕ, _≤_, _<_}
+use mathlib.Core.Bool.{Bool, true, not}
+use mathlib.Core.List.{List, [], _∷_}
 use mathlib.Core.Logic.{_⊎_, inl, inr, ⊎-elim}
 use mathlib.Core.Path.{_≡_, refl, sym, ap}
 use native.Mathlib.Omega.{arith}
-use lib.Dec.{eqb, leb}
-use lib.ListN.{length, getD}
-use borrow.Author.Tests.{leb-true, leb-false, not-true}
+use lib.ListN.{length}
+use borrow.Author.Tests.{not-true}
 pub use Rattle.reader.proofs.Bools.{test, clash, refuted, both-ways, and-l, and-r, and-both, ands, or-l, or-r, or-either}
 pub use Rattle.reader.proofs.Members.{le-or-lt, bit, bit-few, bit-mono, eqb-bit, Place, place, in-at, in-append, in-those, those-in, those-same}
-use Rattle.bounds.specs.Ranges.{some, those, sumOver, In}
+use Rattle.bounds.specs.Ranges.{some, sumOver, In}
 
 module _ {A : Type 0} where
   -- Searches.

@@ -1,12 +1,12 @@
 -- What the private functions that check a path and walk along it promise each other.
 use Prim.Native.Nat.{ℕ, zero, suc, _+_, _-_, _<_, _≤_}
-use mathlib.Core.Bool.{Bool, true, false, cond, _&&_}
+use mathlib.Core.Bool.{Bool, false, cond, _&&_}
 use mathlib.Core.List.{List, [], _∷_}
 use mathlib.Core.Path.{_≡_}
 use lib.ListN.{length, getD}
-use lib.Dec.{leb, eqb}
+use lib.Dec.{eqb}
 use Rattle.reader.specs.Lists.{someBelow}
-use Rattle.reader.specs.Family.{Family, familyOf, regionCount, region, leafOf}
+use Rattle.reader.specs.Family.{Family, familyOf, regionCount, leafOf}
 use Rattle.reader.specs.Causes.{firstCause}
 use Rattle.reader.specs.Calls.{Report}
 use Rattle.reader.specs.WellFormed.{WellFormed, Nested}

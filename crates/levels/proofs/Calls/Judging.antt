@@ -20,7 +20,7 @@
 --   judged-whole                    the first cause of the whole call, from those after 6 and 7
 use Prim.Native.Nat.{ℕ, zero, suc, _-_, _<_, _≤_}
 use native.Mathlib.Omega.{arith}
-use mathlib.Core.Bool.{Bool, true, false, cond}
+use mathlib.Core.Bool.{Bool, true, false}
 use mathlib.Core.List.{List, [], _∷_, _++_, map}
 use mathlib.Core.Logic.{⊎-elim}
 use mathlib.Core.Path.{_≡_, refl, sym, ap, subst, _∙_}
@@ -42,7 +42,7 @@ use Rattle.levels.specs.Causes.{repeated, misleveled, cause26, cause27, 
 use Rattle.levels.specs.Calls.{fromLevelsCauses}
 use Rattle.levels.specs.Private.Listing.{Headed, Sound, Numbers, arranged}
 use Rattle.levels.specs.Private.Leveling.{LevelsBelow, Leveled}
-use Rattle.levels.specs.Private.Ordering.{asListed, distinctOrder}
+use Rattle.levels.specs.Private.Ordering.{distinctOrder}
 use Rattle.levels.specs.Private.Judging.{Distinct, Nested, Plain, roomAndPlaces, Ready, FamilyJudged, ListedJudged}
 use Rattle.levels.proofs.Theory.Rearranged.{level-same, file-order-same, file-order-count}
 use Rattle.levels.proofs.Theory.Distinct.{repeats-few, distinct-all, distinct-placed, arranged-distinct, order-numbers, distinct-order-length, order-all}

@@ -1,7 +1,7 @@
 -- The cut is the largest number up to t that passes.
 use Prim.Native.Nat.{_+_, _-_, _≤_}
 use native.Mathlib.Omega.{arith}
-use mathlib.Core.Path.{_≡_, sym, _∙_}
+use mathlib.Core.Path.{_≡_, sym}
 use denote.Ref.{now}
 use Rattle.bounds.specs.Private.Walks.{marksUpTo}
 use Rattle.bounds.proofs.Walking.Steps.{marks-none, marks-more, passingUpTo, passing-none, passing-more}

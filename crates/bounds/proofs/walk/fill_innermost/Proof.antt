@@ -5,7 +5,7 @@ use mathlib.Core.Bool.{cond}
 use mathlib.Core.Path.{_≡_, refl, sym, ap₂, subst, _∙_}
 use lib.ListN.{length, getD}
 use denote.Ref.{now}
-use Rattle.reader.specs.Family.{familyOf, leaves, region, regionCount}
+use Rattle.reader.specs.Family.{familyOf, regionCount}
 use Rattle.reader.proofs.Parsed.{held-first, held-last}
 use Rattle.bounds.specs.Holding.{isBetween, LastAmong}
 use Rattle.bounds.proofs.Walking.Holding.{none-among, one-among}

@@ -6,7 +6,6 @@ use mathlib.Core.Logic.{⊎-elim}
 use mathlib.Core.Path.{_≡_, refl, _∙_}
 use lib.ListN.{length, getD, length-set}
 use lib.Seq.{getD-set-same, getD-set-other}
-use denote.Ref.{now}
 use Rattle.reader.specs.Family.{familyOf, region, regionCount}
 use Rattle.reader.proofs.Parsed.{held-z}
 use borrow.Author.Needs.{needs}

@@ -1,7 +1,7 @@
 -- The loop has passed only regions that can take a mark; whatever the leaf, the rest of the chain holds it.
 use Prim.Native.Nat.{ℕ, _-_, _≤_}
 use native.Mathlib.Omega.{arith}
-use mathlib.Core.Path.{_≡_, sym}
+use mathlib.Core.Path.{sym}
 use lib.ListN.{getD}
 use denote.Ref.{now}
 use Rattle.reader.specs.Family.{Family}

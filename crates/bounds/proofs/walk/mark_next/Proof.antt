@@ -1,7 +1,7 @@
 -- The regions on the chain from the innermost one are those that hold the peptide's leaf.
 use Prim.Native.Nat.{ℕ}
 use native.Mathlib.Omega.{arith}
-use mathlib.Core.Path.{_≡_, sym, subst, _∙_}
+use mathlib.Core.Path.{sym, subst, _∙_}
 use lib.ListN.{getD}
 use denote.Ref.{now}
 use Rattle.reader.specs.Family.{familyOf, leafOf}

@@ -1,9 +1,7 @@
 -- The loop has written the number at the places before j.
 use Prim.Native.Nat.{_+_, _-_, _≤_, _<_}
 use native.Mathlib.Omega.{arith}
-use mathlib.Core.Path.{_≡_}
 use lib.ListN.{length}
-use denote.Ref.{now}
 use Rattle.bounds.specs.Holding.{PaintedBefore}
 use Rattle.bounds.proofs.Walking.Holding.{paint-starts, paint-more, paint-ends}
 use borrow.Author.Needs.{needs}

@@ -1,6 +1,6 @@
 -- The header, then 6 and 7, then the rest.
 use native.Mathlib.Omega.{arith}
-use mathlib.Core.Path.{_≡_, sym, _∙_}
+use mathlib.Core.Path.{sym, _∙_}
 use denote.Ref.{now}
 use Rattle.levels.proofs.Calls.Judging.{first-header, first-listing, judged-whole}
 use borrow.Author.Needs.{needs}

@@ -1,9 +1,9 @@
 -- The reader judges the family file of what is listed, in file order and without repeats.
 use native.Mathlib.Omega.{arith}
 use native.Mathlib.Nat.{sub-zero}
-use Prim.Native.Nat.{ℕ, _-_, _*_, _≤_}
+use Prim.Native.Nat.{ℕ, _-_, _*_}
 use mathlib.Core.List.{List}
-use mathlib.Core.Path.{_≡_, sym, ap, subst, _∙_}
+use mathlib.Core.Path.{_≡_, ap, subst, _∙_}
 use lib.ListN.{length, take}
 use denote.Ref.{now}
 use Rattle.reader.specs.Bytes.{IsBytes}
