@@ -1,7 +1,7 @@
 -- What the calls of the C interface promise, defined from their inputs. What they leave in lent lists is promised in the words of
 -- the libraries (`TakenWrites`, `ListWrites`, `ChooseWrites`, `CurveValuesWrites`, `CurveMarksWrites`, `ReduceWrites`, `FromPWrites`,
--- `HybridWrites`, `ToLevelsWrites`, `FromLevelsWrites`), and so are the answers of a choice and of bounds from p-values (`ChooseAnswers`, `FromPAnswers`), which are a number
--- there too. The theorem of demand 1 (`DemandOne`) rests on these promises.
+-- `HybridWrites`, `ToLevelsWrites`, `FromLevelsWrites`), and so are the answers of a choice and of bounds from p-values
+-- (`ChooseAnswers`, `FromPAnswers`), which are a number there too. The theorem of demand 1 (`DemandOne`) rests on these promises.
 use Prim.Native.Nat.{ℕ}
 use mathlib.Core.List.{List, [], _∷_}
 use mathlib.Core.Path.{_≡_}
