@@ -8,7 +8,7 @@ use crate::selection::selected_between;
 use reader::family::{Leaf, Peptide, Region, leaf_length, region_count, region_of};
 
 // Where a walk along the line stands: the next region, and the last leaf and the last peptide passed, 0 before the first.
-#[derive(Drop)]
+#[derive(Clone, Copy)]
 pub(crate) struct Cursor {
     pub region: u16,
     pub leaf: Leaf,
@@ -16,7 +16,7 @@ pub(crate) struct Cursor {
 }
 
 // What was counted on the way to a place.
-#[derive(Drop)]
+#[derive(Clone, Copy)]
 pub(crate) struct Counted {
     pub count: u16,
     pub at: Cursor,

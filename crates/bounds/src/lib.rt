@@ -1,5 +1,7 @@
 // The bound of a selection with its taken regions, the bounds of a list of selections, the curve along a path with its marks, and
 // the cut.
+#![tactic(auto)]
+
 mod cursor;
 mod entries;
 mod list;
@@ -20,7 +22,7 @@ use selection::selection_cause;
 use taking::write_taken;
 
 // A bound, or the number of the first cause that holds.
-#[derive(Drop)]
+#[derive(Clone, Copy)]
 pub enum Bounded {
     Bound(u16),
     Refused(u16),
@@ -28,7 +30,7 @@ pub enum Bounded {
 
 // The number of the first cause that holds, 0 for none; what the list is charged, 0 when declined; and the tally with that charge
 // added.
-#[derive(Drop)]
+#[derive(Clone, Copy)]
 pub struct Listed {
     pub number: u16,
     pub charge: u16,
@@ -37,7 +39,7 @@ pub struct Listed {
 
 // The curve is written, or the number of the first cause that holds; number 13 with the first place, counted from 1, whose peptide
 // stands earlier too.
-#[derive(Drop)]
+#[derive(Clone, Copy)]
 pub enum Curved {
     Written,
     Refused(u16),
@@ -45,7 +47,7 @@ pub enum Curved {
 }
 
 // The cut, or the number of the first cause that holds; number 13 with the first place, as in `Curved`.
-#[derive(Drop)]
+#[derive(Clone, Copy)]
 pub enum CutFound {
     At(u16),
     Refused(u16),

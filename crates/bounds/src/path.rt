@@ -7,7 +7,7 @@ use reader::Checked;
 
 // The family and the path are accepted, or the number of the first cause that holds; number 13 with the first place
 // whose peptide stands earlier too.
-#[derive(Drop)]
+#[derive(Clone, Copy)]
 pub(crate) enum Admitted {
     Yes,
     Refused(u16),

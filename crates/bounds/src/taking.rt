@@ -7,7 +7,7 @@ ghost use Rattle.bounds.specs.Private.Takes.{TakeDecided, taken_along};
 use reader::family::{Leaf, region_count, region_of};
 
 // A region's byte, and the last leaf of the latest taken region.
-#[derive(Drop)]
+#[derive(Clone, Copy)]
 struct Step {
     byte: u8,
     until: Leaf,

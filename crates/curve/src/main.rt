@@ -1,5 +1,7 @@
 // The curve program: reads family.phf and path.u16 in the current folder, and prints the table of the curve, or a refusal.
 // Everything between the bytes read and the bytes written is `render`, whose promise says which bytes they are.
+#![tactic(auto)]
+
 mod input;
 mod output;
 mod text;

@@ -1,4 +1,6 @@
 // The hybrid curve: the curve of a path, and wherever the Simes bound, which goes by p-values, is smaller, that one.
+#![tactic(auto)]
+
 mod inputs;
 mod simes;
 mod slots;

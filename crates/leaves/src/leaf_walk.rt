@@ -9,7 +9,7 @@ use reader::bytes::{number_at, number_of};
 use reader::family::{Leaf, leaf_count};
 
 // Where a walk stands: the last leaf passed, 0 before the first, and the peptide's number less the peptides passed.
-#[derive(Drop)]
+#[derive(Clone, Copy)]
 pub(crate) struct Passed {
     pub leaf: Leaf,
     pub left: u16,
@@ -17,7 +17,7 @@ pub(crate) struct Passed {
 
 // Eight sums side by side, which the compiler adds to at once. A sum stays at 65,535 where it would pass it: a peptide's number
 // is not more, so that its leaf is not behind a block with such a sum.
-#[derive(Drop)]
+#[derive(Clone, Copy)]
 struct Lanes {
     a: u16,
     b: u16,

@@ -1,5 +1,7 @@
 // The leaf of a peptide, found by a walk along the leaf lengths of a family file. The call takes any bytes, and its promise is an
 // equation on what it answers.
+#![tactic(auto)]
+
 mod leaf_walk;
 
 ghost use Rattle.leaves.specs.Calls.{LeafAnswers};

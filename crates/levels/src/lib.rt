@@ -1,4 +1,6 @@
 // Families by level: a family file converted to one that lists the regions outermost first, and back.
+#![tactic(auto)]
+
 mod judging;
 mod leveling;
 mod listing;
@@ -13,7 +15,7 @@ use leveling::find_levels;
 use writing::{copy_bytes, write_by_level};
 
 // The length of the file that was written, or the number of the first cause that holds.
-#[derive(Drop)]
+#[derive(Clone, Copy)]
 pub enum Converted {
     Written(u16),
     Refused(u16),

@@ -2,6 +2,8 @@
 // A slice is a pointer and a number of elements. An answer is a struct by value: the number of the first cause that holds,
 // 0 for none, then the values; a field that has no value is 0. The tally of a declined list comes back as it came. The answer of a
 // choice, and of bounds from p-values, is the number alone.
+#![tactic(auto)]
+
 ghost use Rattle.std.specs.Prelude.{◌≡◌};
 ghost use Rattle.bounds.specs.Calls.{report_curve, TakenWrites, ListWrites, CurveValuesWrites, CurveMarksWrites};
 ghost use Rattle.hybrid.specs.Calls.{HybridWrites};
@@ -20,7 +22,7 @@ use reduction::{Compared, ReducedFile};
 use volcano::Rule;
 
 #[repr(C)]
-#[derive(Drop)]
+#[derive(Clone, Copy)]
 pub struct PhfChecked {
     pub number: u16,
     pub peptides: u16,
@@ -29,21 +31,21 @@ pub struct PhfChecked {
 }
 
 #[repr(C)]
-#[derive(Drop)]
+#[derive(Clone, Copy)]
 pub struct PhfPart {
     pub offset: u32,
     pub length: u32,
 }
 
 #[repr(C)]
-#[derive(Drop)]
+#[derive(Clone, Copy)]
 pub struct PhfBounded {
     pub number: u16,
     pub bound: u16,
 }
 
 #[repr(C)]
-#[derive(Drop)]
+#[derive(Clone, Copy)]
 pub struct PhfListed {
     pub number: u16,
     pub charge: u16,
@@ -51,14 +53,14 @@ pub struct PhfListed {
 }
 
 #[repr(C)]
-#[derive(Drop)]
+#[derive(Clone, Copy)]
 pub struct PhfCurved {
     pub number: u16,
     pub place: u16,
 }
 
 #[repr(C)]
-#[derive(Drop)]
+#[derive(Clone, Copy)]
 pub struct PhfCutting {
     pub number: u16,
     pub place: u16,
@@ -66,7 +68,7 @@ pub struct PhfCutting {
 }
 
 #[repr(C)]
-#[derive(Drop)]
+#[derive(Clone, Copy)]
 pub struct PhfReduced {
     pub number: u16,
     pub length: u16,
@@ -74,14 +76,14 @@ pub struct PhfReduced {
 }
 
 #[repr(C)]
-#[derive(Drop)]
+#[derive(Clone, Copy)]
 pub struct PhfCompared {
     pub number: u16,
     pub same: u16,
 }
 
 #[repr(C)]
-#[derive(Drop)]
+#[derive(Clone, Copy)]
 pub struct PhfConverted {
     pub number: u16,
     pub length: u16,

@@ -1,4 +1,6 @@
 // What p-values give: the z of every region of a family.
+#![tactic(auto)]
+
 mod climbing;
 mod innermost;
 pub mod inputs;

@@ -6,15 +6,15 @@ ghost use Rattle.reader.specs.Calls.{held};
 use crate::bytes::{number_at, number_within, smaller};
 
 // The number of a leaf, 1 to N.
-#[derive(Drop)]
+#[derive(Clone, Copy)]
 pub struct Leaf(pub u16);
 
 // The number of a peptide, 1 to m.
-#[derive(Drop)]
+#[derive(Clone, Copy)]
 pub struct Peptide(pub u16);
 
 // All peptides of the leaves from the first to the last, of which at most z are false.
-#[derive(Drop)]
+#[derive(Clone, Copy)]
 pub struct Region {
     pub first: Leaf,
     pub last: Leaf,

@@ -1,5 +1,7 @@
 // The family file: its bytes read and checked, its leaves, its regions and how they nest.
 // Every public call takes any bytes, and its promise is an equation on what it answers and leaves in a lent slice.
+#![tactic(auto)]
+
 pub mod bytes;
 pub mod causes;
 pub mod family;
@@ -16,7 +18,7 @@ use family::{leaf_count, peptide_count, region_count};
 use nesting::{fill_parents, too_deep};
 
 // An accepted family with m, N and K, or the number of the first cause that holds.
-#[derive(Drop)]
+#[derive(Clone, Copy)]
 pub enum Checked {
     Family {
         peptides: u16,

@@ -12,7 +12,7 @@ use reader::family::{Peptide, peptide_count, region_count, region_of};
 
 // Going outward from a region: the smallest z of its stretch, and the smallest z of the other stretches. Where there is
 // no other, 65,535 stands for it: a kept z is less than its room, a 16-bit number, and so less than 65,535.
-#[derive(Drop)]
+#[derive(Clone, Copy)]
 struct Weights {
     least: u16,
     around: u16,

@@ -1,4 +1,6 @@
 // The reduced file of a family, the one form in which its bounds are printed, and the comparison of two families.
+#![tactic(auto)]
+
 mod keep;
 mod stretch;
 mod write;
@@ -21,14 +23,14 @@ use stretch::find_stretches;
 use write::write_reduced;
 
 // The reduced file's length and number of regions, or the number of the first cause that holds.
-#[derive(Drop)]
+#[derive(Clone, Copy)]
 pub enum ReducedFile {
     Written { length: u16, regions: u16 },
     Refused(u16),
 }
 
 // Whether two reductions are equal, or the number of the first cause that holds.
-#[derive(Drop)]
+#[derive(Clone, Copy)]
 pub enum Compared {
     Same,
     Different,
@@ -36,7 +38,7 @@ pub enum Compared {
 }
 
 // The length of a reduced file and its number of regions.
-#[derive(Drop)]
+#[derive(Clone, Copy)]
 pub(crate) struct Size {
     pub bytes: u16,
     pub regions: u16,

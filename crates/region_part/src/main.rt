@@ -1,5 +1,7 @@
 // Writes the bytes that `reader::regions` hands back of family.phf in the current folder. C cannot be handed a part of its
 // own memory, so this is what a test of that call runs.
+#![tactic(auto)]
+
 use libc::STDOUT_FILENO;
 
 fn main() {

@@ -1,4 +1,6 @@
 // Selections from a volcano plot: the peptides whose p-value and log fold change pass a rule.
+#![tactic(auto)]
+
 mod inputs;
 
 ghost use Rattle.std.specs.Prelude.{◌++◌, ◌≡◌, ◌≤◌, length, drop};
@@ -9,14 +11,14 @@ ghost use Rattle.volcano.specs.Calls.{ChooseAnswers, ChooseWrites};
 use inputs::choose_cause;
 
 // What is measured of a peptide.
-#[derive(Drop)]
+#[derive(Clone, Copy)]
 pub struct Row {
     pub p: f64,
     pub fold: f64,
 }
 
 // How peptides are chosen: p at or under a cut; p from one cut to another; p at or under a cut, with the fold outside a band.
-#[derive(Drop)]
+#[derive(Clone, Copy)]
 pub enum Rule {
     AtMost(f64),
     Between(f64, f64),
