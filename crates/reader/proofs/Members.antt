@@ -57,6 +57,7 @@ module _ {A : Type 0} where
     pub there : x ≡ get_or L at d
 
   pub place : (d : A) (L : List A) (x : A) → In x L → Place x L d
+  place d [] x i = elim i [ ]
   place d (y ∷ L) x (inl e) = record { at = 0; in_range = omega arith; there = e }
   place d (y ∷ L) x (inr i) = let p = place d L x i in record { at = suc p.at; in_range = omega arith; there = p.there }
 
@@ -77,6 +78,7 @@ module _ {A : Type 0} where
 
   pub in_those : (t : A → Bool) (L : List A) (x : A) → In x L → t x ≡ true → In x (those t L)
   unfolding those
+  in_those t [] x i h = elim i [ ]
   in_those t (y ∷ L) x (inl e) h = rw (rw e at h) (inl e)
   in_those t (y ∷ L) x (inr i) h = put (t y) y (those t L) x (in_those t L x i h)
 
