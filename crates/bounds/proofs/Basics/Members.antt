@@ -32,6 +32,7 @@ module _ {A : Type 0} where
 
   pub some_in : (t : A → Bool) (L : List A) (x : A) → In x L → t x ≡ true → some t L ≡ true
   unfolding some
+  some_in t [] x x4 h = elim x4 [ ]
   some_in t (y ∷ L) x (inl e) h = or_l (t y) (some t L) (rw e at h)
   some_in t (y ∷ L) x (inr i) h = or_r (t y) (some t L) (some_in t L x i h)
 
@@ -65,6 +66,7 @@ module _ {A : Type 0} where
 
   pub sum_less : (f g : A → ℕ) (L : List A) (x : A) → In x L → f x < g x → ((y : A) → In y L → f y ≤ g y) → sum_over f L < sum_over g L
   unfolding sum_over
+  sum_less f g [] x x5 h le = elim x5 [ ]
   sum_less f g (y ∷ L) x (inl e) h le = omega (arith, rw e at h, sum_mono f g L (λ u i. le u (inr i)))
   sum_less f g (y ∷ L) x (inr i) h le = omega (arith, le y (inl refl), sum_less f g L x i h (λ u j. le u (inr j)))
 

@@ -20,6 +20,7 @@ abbrev pub Respects : ℕ → List Range → Peptides → Type 0
 Respects m R A = (r : Range) → In r R → count m A r ≤ r.z
 
 pub respects_facts : (m : ℕ) (R : List Range) (A : Peptides) → Admissible m R A → Respects m R A
+respects_facts m [] A a r x'' = elim x'' [ ]
 respects_facts m (x ∷ R) A a r (inl e) = rw e a.0
 respects_facts m (x ∷ R) A a r (inr i) = respects_facts m R A a.1 r i
 

@@ -72,6 +72,7 @@ fit_swap (is_before k p) = is_after k p
 fit_swap (is_after k p) = is_before k p
 
 fits_two : (R : List Range) → Fits R → (r t : Range) → In r R → In t R → (r ≡ t) ⊎ Fit r t
+fits_two [] f r t x3 _ = elim x3 [ ]
 fits_two (x ∷ R) f r t (inl e) (inl g) = inl (e ∙ sym g)
 fits_two (x ∷ R) f r t (inl e) (inr j) = inr (rw e (f.0 t j))
 fits_two (x ∷ R) f r t (inr i) (inl g) = inr (rw g (fit_swap (f.0 r i)))
@@ -158,6 +159,7 @@ furthest (r ∷ R) = max r.to (furthest R)
 
 furthest_le : (R : List Range) (r : Range) → In r R → r.to ≤ furthest R
 unfolding furthest
+furthest_le [] r x' = elim x' [ ]
 furthest_le (x ∷ R) r (inl e) = rw e (omega arith)
 furthest_le (x ∷ R) r (inr i) = omega (arith, furthest_le R r i)
 

@@ -90,6 +90,7 @@ is_itself r =
     (eq-eqb r.z r.z refl)
 
 member_some : {A : Type 0} (x : A) (L : List A) → In x L → 0 < length L
+member_some {A = A} x [] i = elim i [ ]
 member_some x (y ∷ L) i = omega arith
 
 pub same_refl : (L : List Region) → SameRegions L L

@@ -1,0 +1,14 @@
+-- The loop has seen the first i peptides, and none of them twice.
+use Prim.Native.Nat.{ℕ, ◌+◌, ◌≤◌, ◌<◌, ◌-◌}
+use mathlib.Core.Bool.{false}
+use mathlib.Core.Path.{◌≡◌}
+use lib.ListN.{length}
+use Rattle.bounds.specs.Curves.{repeated}
+use Rattle.bounds.proofs.Calls.PathLaws.{Seen}
+use Rattle.bounds.proofs.path.first_repeat.Given as goal
+
+abbrev pub invariant-loop-i : goal.invariant-loop-i
+invariant-loop-i l = (l.i ≤ length l.path) × (length l.seen ≡ 4097) × Seen l.path l.i l.seen × ((k : ℕ) → k < l.i → repeated l.path (k + 1) ≡ false)
+
+abbrev pub decreases-loop-i : goal.decreases-loop-i
+decreases-loop-i l = length l.path - l.i

@@ -1,0 +1,47 @@
+-- The first cause that holds, or the family file that has been made beside the output.
+use native.Mathlib.Omega.{arith}
+use mathlib.Core.List.{List}
+use mathlib.Core.Path.{refl, sym, ap, ◌∙◌}
+use Prim.Native.Nat.{ℕ, ◌-◌}
+use lib.ListN.{length}
+use lib.Seq.{sets}
+use Rattle.levels.specs.Levels.{family_file_of}
+use Rattle.levels.specs.Private.Judging.{Ready}
+use Rattle.levels.proofs.Files.Listed.{header_facts, header_few}
+use Rattle.levels.proofs.Files.LevelFiles.{from_length}
+use Rattle.levels.proofs.Files.Written.{at_start_lem}
+use Rattle.levels.proofs.Calls.Conversions.{from_refused, from_written}
+use Rattle.levels.proofs.from_levels.Goals as goal
+use Rattle.levels.proofs.from_levels.Goals.{Else-cause-ne0, Start}
+
+abbrev bytesOfFile : Start → List ℕ
+bytesOfFile c = c.args.file.now
+
+ready : (c : Else-cause-ne0) → Ready (bytesOfFile c.before.before.before.before.before.before) (length c.args.out.now) c.listed_cause-cause.new.plain
+ready c = c.listed_cause-cause.ensures.done c.if-cause-ne0.false
+
+pub returns-then-cause-ne0 : goal.returns-then-cause-ne0
+returns-then-cause-ne0 c =
+    from_refused _ _ _ c.listed_cause-cause.ensures.first c.if-cause-ne0.true
+
+pub overflow_sub-needed : goal.overflow_sub-needed
+overflow_sub-needed c =
+    omega (arith, (header_facts _ (ready (goal.at.overflow_sub-needed c).Else-cause-ne0).headed).whole)
+
+pub copy_bytes-requires : goal.copy_bytes-requires
+copy_bytes-requires c =
+    let h = header_facts _ (ready (goal.at.copy_bytes-requires c).Else-cause-ne0).headed in record { n_in_bounds = omega (arith, h.whole, h.leaves_most, header_few _ (ready (goal.at.copy_bytes-requires c).Else-cause-ne0).headed, c.listed_cause-cause.auto.plain); n_in_bounds_2 = omega (arith, (ready (goal.at.copy_bytes-requires c).Else-cause-ne0).fits) }
+
+pub overflow_cast-length : goal.overflow_cast-length
+overflow_cast-length c =
+    let h = header_facts _ (ready (goal.at.overflow_cast-length c).Else-cause-ne0).headed in omega (arith, h.whole, h.leaves_most, h.regions_most)
+
+pub returns : goal.returns
+returns c =
+    let s = bytesOfFile start in
+    let out = c.args.out.now in
+    let r = ready (goal.at.returns c).Else-cause-ne0 in
+    from_written s out r.headed (sym c.listed_cause-cause.ensures.first ∙ c.if-cause-ne0.false) r.as_many _ _ refl
+    (c.copy_bytes.ensures
+    ∙ ap (sets out 0) r.plain_is
+    ∙ at_start_lem (family_file_of s) out (omega (arith, from_length s r.headed r.as_many, r.fits)))

@@ -1,0 +1,73 @@
+-- The output, the level counts, then the levels at the places of their regions.
+use Prim.Native.Nat.{ℕ}
+use native.Mathlib.Omega.{arith}
+use mathlib.Core.Bool.{false}
+use mathlib.Core.List.{List}
+use mathlib.Core.Path.{◌≡◌, refl, sym, ap, ◌∙◌}
+use Rattle.reader.specs.Family.{region_count, region}
+use Rattle.reader.proofs.Parsed.{regions_read}
+use Rattle.levels.specs.Levels.{level_of, listed_family, counts_in, distinct}
+use Rattle.levels.specs.Causes.{repeated, cause26}
+use Rattle.levels.proofs.Theory.RoundTrips.{counts_add}
+use Rattle.levels.proofs.Files.Listed.{header_facts, header_few, listed_regions}
+use Rattle.levels.proofs.Calls.LevelCauses.{listing_clear}
+use Rattle.levels.proofs.Calls.Judging.{numbers_of, few_of, left_out, none_left_out, levels_placed, place_16, place_26, place_27, place_0, wrong_27, right_27}
+use Rattle.levels.proofs.judging.place_cause.Goals as goal
+use Rattle.levels.proofs.judging.place_cause.Goals.{After-region_count, Else-bad_counts, Else-order-region_count, Start}
+
+abbrev bytesOfFile : Start → List ℕ
+bytesOfFile c = c.args.file.now
+
+count : (c : After-region_count) → c.region_count.result ≡ region_count (listed_family (bytesOfFile c.before.before.before.before.before.before.before))
+count c = c.region_count.ensures ∙ omega (arith, regions_read ((c.args.file.now)), listed_regions ((c.args.file.now)))
+
+no26 : (c : Else-bad_counts) → cause26 (counts_in (bytesOfFile c.before.before.before.before.before.before)) (region_count (listed_family (bytesOfFile c.before.before.before.before.before.before))) ≡ false
+no26 c = sym c.bad_counts.ensures ∙ c.if-bad_counts.false
+
+none-repeats : (c : Else-order-region_count) → repeated (listed_family (bytesOfFile c.before.before.before.before.before.before.before.before)) ≡ false
+none-repeats c = none_left_out _ _ c.requires.distinct (omega (arith, c.if-order-region_count.false, (c.region_count.ensures ∙ omega (arith, regions_read ((c.args.file.now)), listed_regions ((c.args.file.now))))))
+
+pub overflow_sub-file : goal.overflow_sub-file
+overflow_sub-file c =
+    omega (arith, (header_facts _ c.requires.distinct.headed).whole)
+
+pub returns-then-room-file : goal.returns-then-room-file
+returns-then-room-file c =
+    sym (place_16 _ _ c.if-room-file.true)
+
+pub bad_counts-requires : goal.bad_counts-requires
+bad_counts-requires c =
+    c.requires.distinct.headed
+
+pub returns-then-bad_counts : goal.returns-then-bad_counts
+returns-then-bad_counts c =
+    sym (place_26 _ _ c.if-room-file.false (sym c.bad_counts.ensures ∙ c.if-bad_counts.true))
+
+pub returns-then-order-region_count : goal.returns-then-order-region_count
+returns-then-order-region_count c =
+    sym (place_27 _ _ c.if-room-file.false (no26 (goal.at.returns-then-order-region_count c).Else-bad_counts) (left_out _ _ c.requires.distinct (omega (arith, c.if-order-region_count.true, count (goal.at.returns-then-order-region_count c).After-region_count))))
+
+pub place_levels-requires : goal.place_levels-requires
+place_levels-requires c =
+    let s = bytesOfFile start in
+    let few = header_few s c.requires.distinct.headed in
+    let nested = c.requires.nested in record {
+      order_in_bounds = omega (arith, few, few_of _ _ c.requires.distinct, nested.room);
+      by_index = λ k i. omega (arith, few, numbers_of _ _ c.requires.distinct k i);
+      by_index_2 = λ i j l h e.
+          nested.leveled refl i (omega arith)
+          ∙ ap (λ (n : ℕ). level_of (distinct (listed_family s)) (region (listed_family s) n)) e
+          ∙ sym (nested.leveled refl j h);
+    }
+
+pub wrong_levels-requires : goal.wrong_levels-requires
+wrong_levels-requires c =
+    let s = bytesOfFile start in record { headed = (c.requires.distinct.headed, (listing_clear s c.requires.distinct.sound).1); levels_below = levels_placed _ _ c.requires.distinct (none-repeats (goal.at.wrong_levels-requires c).Else-order-region_count) c.args.levels.now c.place_levels.new.placed c.requires.nested c.place_levels.ensures; file_in_bounds = omega (arith, header_few s c.requires.distinct.headed, c.place_levels.auto.placed); file_value = counts_add _ _ (no26 (goal.at.wrong_levels-requires c).Else-bad_counts) }
+
+pub returns-then-wrong_levels : goal.returns-then-wrong_levels
+returns-then-wrong_levels c =
+    sym (place_27 _ _ c.if-room-file.false (no26 (goal.at.returns-then-wrong_levels c).Else-bad_counts) (wrong_27 _ _ (sym c.wrong_levels.ensures ∙ c.if-wrong_levels.true)))
+
+pub returns-else-wrong_levels : goal.returns-else-wrong_levels
+returns-else-wrong_levels c =
+    sym (place_0 _ _ c.if-room-file.false (no26 (goal.at.returns-else-wrong_levels c).Else-bad_counts) (right_27 _ _ (none-repeats (goal.at.returns-else-wrong_levels c).Else-order-region_count) (sym c.wrong_levels.ensures ∙ c.if-wrong_levels.false)))

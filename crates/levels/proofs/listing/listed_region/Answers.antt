@@ -1,0 +1,10 @@
+-- Three numbers where the layout has them.
+use native.Mathlib.Omega.{arith}
+use Rattle.reader.proofs.Parsed.{leaves_read}
+use Rattle.levels.proofs.Files.Listed.{listed_held, listed_regions}
+use Rattle.levels.proofs.listing.listed_region.Goals as goal
+
+pub returns : goal.returns
+returns c =
+    let s = c.args.file.now in
+    listed_held s c.args.k _ _ (omega (arith, c.requires.k_bound, listed_regions s)) (omega (arith, c.leaf_count.ensures, leaves_read s)) c.number_at.ensures c.number_at-2.ensures c.number_at-3.ensures
