@@ -28,7 +28,7 @@ use lib.ListN.{length, get_or}
 use Rattle.bounds.specs.Ranges.{Range, Peptides, has, card, count, those, just_inside, parts, outside, In}
 use Rattle.bounds.proofs.Basics.Members.{Place, place, some_in, those_in}
 use Rattle.bounds.proofs.Basics.Counting.{card_same, Disjoint, Apart, Contains}
-use Rattle.bounds.proofs.Basics.Nesting.{has_facts, has_holds, Inside, inside_self, just_facts, part_holds, inner, part_around}
+use Rattle.bounds.proofs.Basics.Nesting.{has_facts, has_holds, Inside, inside_self, just_facts, part_holds, part_around}
 
 -- How two ranges with different keys may lie: one is inside the other, and so are its peptides,
 -- or one is before the other, and so are its peptides.

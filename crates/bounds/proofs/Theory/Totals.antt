@@ -9,7 +9,7 @@ use Rattle.bounds.specs.Ranges.{Range, Peptides, has, count, some, sum_over, ins
 use Rattle.bounds.specs.Bound.{total_within, total, value, bound}
 use Rattle.bounds.proofs.Basics.Members.{clash, both_ways, nowhere_facts, nowhere_holds, those_same, sum_same}
 use Rattle.bounds.proofs.Basics.Counting.{SameSet, card_same, count_same}
-use Rattle.bounds.proofs.Basics.Nesting.{Inside, inside_facts, inside_holds, JustInside, just_facts, just_holds, Part, part_facts, inner, deep, deep_less, deep_most, Below, inward}
+use Rattle.bounds.proofs.Basics.Nesting.{Inside, inside_facts, inside_holds, JustInside, just_facts, just_holds, Part, part_facts, deep, deep_less, deep_most, Below, inward}
 use Rattle.bounds.proofs.Theory.Laminar.{Laminar, Around, around_count, in_a_part}
 
 -- The equation.

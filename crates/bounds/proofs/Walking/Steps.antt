@@ -21,7 +21,7 @@ use Rattle.bounds.specs.Curves.{entry, mark_at, curve_marks, largest_up_to}
 use Rattle.bounds.specs.Holding.{holds_leaf}
 use Rattle.bounds.specs.Private.Walks.{crowded, MarkedNext, marks_up_to, MarksOf, Distinct}
 use Rattle.bounds.proofs.Basics.Members.{test, both_ways, and_l, and_r, and_both, bit, le_or_lt, bit_few}
-use Rattle.bounds.proofs.Basics.Counting.{none, adding, count_none, count_adding, count_adding_other}
+use Rattle.bounds.proofs.Basics.Counting.{adding, count_none, count_adding, count_adding_other}
 use Rattle.bounds.proofs.Basics.Nesting.{has_facts, has_holds}
 use Rattle.bounds.proofs.Theory.Greedy.{blocked, blocked_facts, blocked_holds, greedy}
 use Rattle.bounds.proofs.Theory.Family.{range_in, of_region}

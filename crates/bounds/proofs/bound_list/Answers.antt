@@ -10,7 +10,7 @@ use Rattle.bounds.specs.Tally.{charge_of}
 use Rattle.bounds.specs.Calls.{list_causes}
 use Rattle.bounds.proofs.Calls.ListCalls.{no_list_cause, charges_nothing, charges, list_unchanged, list_written}
 use Rattle.bounds.proofs.bound_list.Goals as goal
-use Rattle.bounds.proofs.bound_list.Goals.{After-charge_of-charge, Else-number-ne0, Start}
+use Rattle.bounds.proofs.bound_list.Goals.{After-charge_of-charge, Else-number-ne0}
 
 clear : (c : Else-number-ne0) → let a = c.args in first_cause (list_causes a.file.now a.selections.now a.count a.tally (length a.values.now)) ≡ 0
 clear c = sym c.list_cause-number.ensures ∙ c.if-number-ne0.false
@@ -23,11 +23,8 @@ pub write_bounds-requires : goal.write_bounds-requires
 write_bounds-requires c =
     let n = no_list_cause _ _ _ _ _ (clear (goal.at.write_bounds-requires c).Else-number-ne0) in record { well_formed = well_formed_lem _ (λ i. omega (arith, c.shared_slice_known-1.given i)) n.accepted; selections_len = n.whole; count_in_bounds = n.room }
 
-abbrev start : (c : After-charge_of-charge) → Start
-start c = c.before.before.before.before.before.before.before.before.before.before.before
-
-charge_is : (c : After-charge_of-charge) → c.charge_of-charge.result ≡ charge_of (region_count (family_of (start c).args.file.now)) (start c).args.count
-charge_is c = c.charge_of-charge.ensures ∙ ap (λ (K : ℕ). charge_of K (start c).args.count) c.region_count.ensures
+charge_is : (c : After-charge_of-charge) → c.charge_of-charge.result ≡ charge_of (region_count (family_of c.args.file.now)) c.args.count
+charge_is c = c.charge_of-charge.ensures ∙ ap (λ (K : ℕ). charge_of K c.args.count) c.region_count.ensures
 
 pub overflow_add-tally : goal.overflow_add-tally
 overflow_add-tally c =
@@ -40,4 +37,4 @@ shape_of-values c =
 
 pub returns : goal.returns
 returns c =
-    let h = clear (goal.at.returns c).Else-number-ne0 in record { list_answers = ap (λ (n : ℕ). record { number = 0; charge = n; tally = (start (goal.at.returns c).After-charge_of-charge).args.tally + n }) (charge_is (goal.at.returns c).After-charge_of-charge) ∙ charges _ _ _ h; list_writes = list_written _ _ _ _ _ _ h c.write_bounds.ensures }
+    let h = clear (goal.at.returns c).Else-number-ne0 in record { list_answers = ap (λ (n : ℕ). record { number = 0; charge = n; tally = c.args.tally + n }) (charge_is (goal.at.returns c).After-charge_of-charge) ∙ charges _ _ _ h; list_writes = list_written _ _ _ _ _ _ h c.write_bounds.ensures }

@@ -1,5 +1,5 @@
 -- The causes of the family and the path first, then the fraction; then the walk finds the cut.
-use mathlib.Core.Path.{sym, subst}
+use mathlib.Core.Path.{sym}
 use lib.Dec.{eqb, ltb}
 use borrow.Author.Tests.{eq-eqb, ne_eqb, lt-ltb, le-ltb}
 use Rattle.reader.proofs.Bools.{or_l, or_r, or_neither}
@@ -12,7 +12,7 @@ use Rattle.bounds.proofs.cut.Goals as goal
 use Rattle.bounds.proofs.cut.Goals.{In-Yes}
 
 admitted : (c : In-Yes) → Admission c.args.file.now c.args.path.now c.admit.new.parents Yes
-admitted c = subst (Admission c.args.file.now c.args.path.now c.admit.new.parents) c.enum_told-1.given.1 c.admit.ensures
+admitted c = c.in-Yes.ensures
 
 pub returns-then-b-eq0 : goal.returns-then-b-eq0
 unfolding report_cut cause15
@@ -42,26 +42,9 @@ returns-else-b-a c =
 pub returns-in-Refused : goal.returns-in-Refused
 unfolding report_cut
 returns-in-Refused c =
-    cut_refuses _ _ _ _ _ (subst (Admission c.args.file.now c.args.path.now c.admit.new.parents) c.number-1.given.1 c.admit.ensures)
+    cut_refuses _ _ _ _ _ c.in-Refused.ensures
 
 pub returns-in-Repeated : goal.returns-in-Repeated
 unfolding report_cut
 returns-in-Repeated c =
-    cut_refuses _ _ _ _ _ (subst (Admission c.args.file.now c.args.path.now c.admit.new.parents) c.place-1.given.1 c.admit.ensures)
-
-pub cut_spec : {M : Type 1} → statement M
-cut_spec =
-    tie.close
-    (tie.spec
-    slice-aggregate-admit
-    admit-requires
-    enum_told
-    returns
-    returns-2
-    slice-aggregate-find-cut
-    find-cut-requires
-    enum-known-number
-    enum-known-place
-    returns-3
-    returns-4
-    returns-5)
+    cut_refuses _ _ _ _ _ c.in-Repeated.ensures

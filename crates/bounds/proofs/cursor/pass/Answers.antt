@@ -23,6 +23,3 @@ selected_between-count-requires c =
 pub returns : goal.returns
 returns c =
     record { region = refl; leaf = refl; peptide = c.last_peptide-peptide.ensures; counted = c.selected_between-count.ensures }
-
-pub pass_spec : {M : Type 1} → statement M
-pass_spec = tie.close (tie.spec last-peptide-requires selected-between-requires returns)

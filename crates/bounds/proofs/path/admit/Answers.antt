@@ -6,24 +6,22 @@ use mathlib.Core.Path.{◌≡◌, sym, ap, ◌∙◌}
 use Rattle.reader.specs.Bytes.{IsBytes}
 use Rattle.reader.specs.Family.{family_of}
 use Rattle.reader.specs.Causes.{Accepted}
-use Rattle.reader.specs.Calls.{report}
 use Rattle.reader.proofs.Accepting.{well_formed_lem, learns_accepted, learns_refused}
 use Rattle.reader.proofs.ParentLaws.{enough_room, enough_first, enough_checked, parents_given}
 use Rattle.bounds.specs.Private.Walks.{number_cause}
 use Rattle.bounds.proofs.Calls.PathLaws.{all_different, repeat_holds, number_first, path_13, path_none, path_short, path_numbers, file_most, input_file, input_path, input_refused, input_repeats, walkable}
 use Rattle.bounds.proofs.path.admit.Goals as goal
-use Rattle.bounds.proofs.path.admit.Goals.{After-number_cause-number, After-shared_slice_known-1, In-Family-2}
+use Rattle.bounds.proofs.path.admit.Goals.{After-number_cause-number, After-shared_slice_known-1, In-Family}
 
-accepted : (c : In-Family-2) → Accepted c.args.file.now × (c.peptides-1.given.0.0 ≡ (family_of c.args.file.now).peptides)
+accepted : (c : In-Family) → Accepted c.args.file.now × (c.in-Family.peptides ≡ (family_of c.args.file.now).peptides)
 accepted c =
-    let a = learns_accepted c.args.file.now _ _ _ (ap report (sym c.peptides-1.given.1) ∙ c.parents.ensures.parents_answers ∙ enough_checked _ _ c.requires) in
+    let a = learns_accepted c.args.file.now _ _ _ (c.in-Family.ensures.parents_answers ∙ enough_checked _ _ c.requires) in
     (a.accepted, a.peptides)
 
 -- what the number of cause 11 or 12 says, at the m of the family
 number_read : (c : After-number_cause-number)
     → c.number_cause-number.result ≡ number_cause (family_of c.args.file.now).peptides c.args.path.now
-number_read c = c.number_cause-number.ensures ∙ ap (λ (m : ℕ). number_cause m c.args.path.now) ((let a = learns_accepted c.args.file.now _ _ _ (ap report (sym c.peptides-1.given.1) ∙ c.parents.ensures.parents_answers ∙ enough_checked _ _ c.requires) in
-    (a.accepted, a.peptides))).1
+number_read c = c.number_cause-number.ensures ∙ ap (λ (m : ℕ). number_cause m c.args.path.now) (learns_accepted c.args.file.now _ _ _ (c.in-Family.ensures.parents_answers ∙ enough_checked _ _ c.requires)).peptides
 
 bytes : (c : After-shared_slice_known-1) → IsBytes c.args.file.now
 bytes c i = omega (arith, c.shared_slice_known-1.given i)
@@ -33,14 +31,14 @@ returns-then-number-ne0 c =
     let s = c.args.file.now in
     let path = c.args.path.now in
     let f = number_first (family_of s).peptides path (λ z. c.if-number-ne0.true (number_read (goal.at.returns-then-number-ne0 c).After-number_cause-number ∙ z)) in
-    input_refused s path _ (number_read (goal.at.returns-then-number-ne0 c).After-number_cause-number ∙ sym f.0 ∙ sym (input_path s path (accepted (goal.at.returns-then-number-ne0 c).In-Family-2).0)) c.if-number-ne0.true (λ z. omega (arith, number_read (goal.at.returns-then-number-ne0 c).After-number_cause-number, f.1))
+    input_refused s path _ (number_read (goal.at.returns-then-number-ne0 c).After-number_cause-number ∙ sym f.0 ∙ sym (input_path s path (accepted (goal.at.returns-then-number-ne0 c).In-Family).0)) c.if-number-ne0.true (λ z. omega (arith, number_read (goal.at.returns-then-number-ne0 c).After-number_cause-number, f.1))
 
 pub first_repeat-place-requires : goal.first_repeat-place-requires
 first_repeat-place-requires c =
     let s = c.args.file.now in
     let path = c.args.path.now in
     let none = sym (number_read (goal.at.first_repeat-place-requires c).After-number_cause-number) ∙ c.if-number-ne0.false in
-    let most = (well_formed_lem s (bytes (goal.at.first_repeat-place-requires c).After-shared_slice_known-1) (accepted (goal.at.first_repeat-place-requires c).In-Family-2).0).peptides_most in record { path_len_bound = omega (arith, path_short (family_of s).peptides path none); by_index = λ i l. omega (arith, (path_numbers (family_of s).peptides path none i l).1) }
+    let most = (well_formed_lem s (bytes (goal.at.first_repeat-place-requires c).After-shared_slice_known-1) (accepted (goal.at.first_repeat-place-requires c).In-Family).0).peptides_most in record { path_len_bound = omega (arith, path_short (family_of s).peptides path none); by_index = λ i l. omega (arith, (path_numbers (family_of s).peptides path none i l).1) }
 
 pub returns-then-place-ne0 : goal.returns-then-place-ne0
 returns-then-place-ne0 c =
@@ -48,7 +46,7 @@ returns-then-place-ne0 c =
     let path = c.args.path.now in
     let none = sym (number_read (goal.at.returns-then-place-ne0 c).After-number_cause-number) ∙ c.if-number-ne0.false in
     let some = c.if-place-ne0.true in
-    input_repeats s path _ (input_path s path (accepted (goal.at.returns-then-place-ne0 c).In-Family-2).0 ∙ path_13 (family_of s).peptides path none (repeat_holds path (λ z. some (c.first_repeat-place.ensures ∙ z)))) c.first_repeat-place.ensures
+    input_repeats s path _ (input_path s path (accepted (goal.at.returns-then-place-ne0 c).In-Family).0 ∙ path_13 (family_of s).peptides path none (repeat_holds path (λ z. some (c.first_repeat-place.ensures ∙ z)))) c.first_repeat-place.ensures
 
 pub returns-else-place-ne0 : goal.returns-else-place-ne0
 returns-else-place-ne0 c =
@@ -56,7 +54,7 @@ returns-else-place-ne0 c =
     let path = c.args.path.now in
     let none = sym (number_read (goal.at.returns-else-place-ne0 c).After-number_cause-number) ∙ c.if-number-ne0.false in
     let differ = all_different path (sym c.first_repeat-place.ensures ∙ c.if-place-ne0.false) in
-    let ok = (accepted (goal.at.returns-else-place-ne0 c).In-Family-2).0 in
+    let ok = (accepted (goal.at.returns-else-place-ne0 c).In-Family).0 in
     let out = c.args.parents.now in
     let known = parents_given s out (enough_first s out c.requires ∙ ok) _ c.parents.ensures.parents_writes in (
       input_path s path ok ∙ path_none (family_of s).peptides path none differ,
@@ -67,5 +65,5 @@ pub returns-in-Refused : goal.returns-in-Refused
 returns-in-Refused c =
     let s = c.args.file.now in
     let path = c.args.path.now in
-    let r = learns_refused s _ (c.in-Refused.ensures.0 ∙ enough_checked _ _ c.requires) in
+    let r = learns_refused s _ (c.in-Refused.ensures.parents_answers ∙ enough_checked _ _ c.requires) in
     input_refused s path _ (r.0 ∙ sym (input_file s path (λ z. r.1 (r.0 ∙ z)))) r.1 (λ z. omega (arith, r.0, file_most s))

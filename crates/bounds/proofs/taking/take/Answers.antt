@@ -22,6 +22,3 @@ returns c =
     let e = c.region_of-r.ensures in
     let n = not_over (family_of c.args.file.now) c.args.k c.args.total c.args.until.0 (omega (arith, held_z _ _ e, c.if-z-total.false)) in
     record { byte = rw n; latest = rw n }
-
-pub take_spec : {M : Type 1} → statement M
-take_spec = tie.close (tie.spec region-of-requires returns returns-2 returns-3)

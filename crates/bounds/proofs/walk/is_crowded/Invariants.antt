@@ -1,5 +1,5 @@
 -- The loop has passed only regions that can take a mark; whatever the leaf, the rest of the chain holds it.
-use Prim.Native.Nat.{ℕ, ◌-◌, ◌≤◌}
+use Prim.Native.Nat.{ℕ, ◌≤◌}
 use Rattle.reader.specs.Family.{Family}
 use Rattle.reader.specs.WellFormed.{Nested}
 use Rattle.bounds.specs.Holding.{LastHolding}

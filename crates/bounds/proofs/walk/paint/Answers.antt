@@ -1,4 +1,3 @@
-use Prim.Native.Nat.{◌-◌}
 use native.Mathlib.Omega.{arith}
 use Rattle.bounds.proofs.Walking.Holding.{paint_starts, paint_more, paint_ends}
 use Rattle.bounds.proofs.walk.paint.Goals as goal
