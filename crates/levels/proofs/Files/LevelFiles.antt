@@ -22,7 +22,7 @@ use lib.Dec.{ltb}
 use borrow.Author.Tests.{ltb-true, ltb-false}
 use Rattle.reader.specs.Lists.{tabulate}
 use Rattle.reader.specs.Bytes.{IsBytes, number_at, bytes_of}
-use Rattle.reader.specs.Family.{Family, leaves, region_count, region, length_at, region_at, family_of, mark, region_fields, fields, file_of}
+use Rattle.reader.specs.Family.{Family, leaves, region_count, length_at, region_at, family_of, mark, region_fields, fields, file_of}
 use Rattle.reader.specs.Causes.{cause2, cause3, cause4}
 use Rattle.reader.proofs.Bools.{test}
 use Rattle.reader.proofs.Lists.{length_tabulate, get_d_tabulate, tabulate_same}

@@ -1,8 +1,6 @@
 -- The first cause that holds, or the family file that has been made beside the output.
 use native.Mathlib.Omega.{arith}
-use mathlib.Core.List.{List}
 use mathlib.Core.Path.{refl, sym, ap, ◌∙◌}
-use Prim.Native.Nat.{ℕ, ◌-◌}
 use lib.ListN.{length}
 use lib.Seq.{sets}
 use Rattle.levels.specs.Levels.{family_file_of}
@@ -12,17 +10,15 @@ use Rattle.levels.proofs.Files.LevelFiles.{from_length}
 use Rattle.levels.proofs.Files.Written.{at_start_lem}
 use Rattle.levels.proofs.Calls.Conversions.{from_refused, from_written}
 use Rattle.levels.proofs.from_levels.Goals as goal
-use Rattle.levels.proofs.from_levels.Goals.{Else-cause-ne0, Start}
+use Rattle.levels.proofs.from_levels.Goals.{Else-cause-ne0}
 
-abbrev bytesOfFile : Start → List ℕ
-bytesOfFile c = c.args.file.now
-
-ready : (c : Else-cause-ne0) → Ready (bytesOfFile c.before.before.before.before.before.before) (length c.args.out.now) c.listed_cause-cause.new.plain
+ready : (c : Else-cause-ne0) → Ready c.args.file.now (length c.args.out.now) c.listed_cause-cause.new.plain
 ready c = c.listed_cause-cause.ensures.done c.if-cause-ne0.false
 
 pub returns-then-cause-ne0 : goal.returns-then-cause-ne0
 returns-then-cause-ne0 c =
-    from_refused _ _ _ c.listed_cause-cause.ensures.first c.if-cause-ne0.true
+    let r = from_refused c.args.file.now c.args.out.now _ c.listed_cause-cause.ensures.first c.if-cause-ne0.true in
+    record { from_levels_answers = r.0; from_levels_writes = r.1 }
 
 pub overflow_sub-needed : goal.overflow_sub-needed
 overflow_sub-needed c =
@@ -38,10 +34,12 @@ overflow_cast-length c =
 
 pub returns : goal.returns
 returns c =
-    let s = bytesOfFile start in
+    let s = c.args.file.now in
     let out = c.args.out.now in
     let r = ready (goal.at.returns c).Else-cause-ne0 in
+    let w =
     from_written s out r.headed (sym c.listed_cause-cause.ensures.first ∙ c.if-cause-ne0.false) r.as_many _ _ refl
     (c.copy_bytes.ensures
     ∙ ap (sets out 0) r.plain_is
-    ∙ at_start_lem (family_file_of s) out (omega (arith, from_length s r.headed r.as_many, r.fits)))
+    ∙ at_start_lem (family_file_of s) out (omega (arith, from_length s r.headed r.as_many, r.fits))) in
+    record { from_levels_answers = w.0; from_levels_writes = w.1 }

@@ -26,6 +26,7 @@ use Rattle.pvalues.proofs.Theory.Passing.{passes_zero, passes_top, passes_gap, p
 
 pub every_at : (p : ℕ → Bool) (L : List ℕ) → every p L ≡ true → (x : ℕ) → In x L → p x ≡ true
 unfolding every
+every_at p [] h x x4 = elim x4 [ ]
 every_at p (y ∷ L) h x (inl e) = rw e (and_l (p y) (every p L) h)
 every_at p (y ∷ L) h x (inr i) = every_at p L (and_r (p y) (every p L) h) x i
 

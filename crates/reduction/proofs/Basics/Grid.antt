@@ -29,6 +29,7 @@ use Rattle.reduction.specs.Reduction.{rising, falling, grid}
 -- Members.
 
 pub append_l : {A : Type 0} (x : A) (L M : List A) → In x L → In x (L ++ M)
+append_l {A = A} x [] M x'' = elim x'' [ ]
 append_l x (y ∷ L) M (inl e) = inl e
 append_l x (y ∷ L) M (inr i) = inr (append_l x L M i)
 
@@ -50,10 +51,12 @@ top n f x i = record { place = suc n; positive = omega arith; small = omega arit
 
 pub in_rising : {A : Type 0} (n : ℕ) (f : ℕ → List A) (x : A) → In x (rising n f) → At n f x
 unfolding rising
+in_rising {A = A} zero f x i = elim i [ ]
 in_rising (suc n) f x i = ⊎_elim (λ j. up n f x (in_rising n f x j)) (top n f x) (in_append x (rising n f) (f (suc n)) i)
 
 pub in_falling : {A : Type 0} (n : ℕ) (f : ℕ → List A) (x : A) → In x (falling n f) → At n f x
 unfolding falling
+in_falling {A = A} zero f x i = elim i [ ]
 in_falling (suc n) f x i = ⊎_elim (top n f x) (λ j. up n f x (in_falling n f x j)) (in_append x (f (suc n)) (falling n f) i)
 
 pub rising_in : {A : Type 0} (n : ℕ) (f : ℕ → List A) (x : A) (a : ℕ) → 1 ≤ a → a ≤ n → In x (f a) → In x (rising n f)

@@ -33,6 +33,7 @@ up m X p c = record { positive = c.positive; small = omega arith; chosen = c.cho
 
 pub listing_facts : (m : ℕ) (X : Peptides) (p : ℕ) → In p (listing m X) → OnList m X p
 unfolding listing
+listing_facts zero X p i = elim i [ ]
 listing_facts (suc m) X p i = go (X (suc m)) refl i (listing_facts m X p)
   where
     go : (b : Bool) → X (suc m) ≡ b → In p (cond b (suc m ∷ listing m X) (listing m X)) → (In p (listing m X) → OnList m X p) → OnList (suc m) X p

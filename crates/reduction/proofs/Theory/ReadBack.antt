@@ -21,10 +21,12 @@ use Rattle.reduction.proofs.Basics.Plain.{Plain}
 -- Members of a mapped list.
 
 pub in_map : {A B : Type 0} (f : A → B) (L : List A) (y : B) → In y (map f L) → (x : A) × In x L × (y ≡ f x)
+in_map {A = A} {B = B} f [] y x' = elim x' [ ]
 in_map f (x ∷ L) y (inl e) = (x, inl refl, e)
 in_map f (x ∷ L) y (inr i) = let c = in_map f L y i in (c.0, inr c.1, c.2)
 
 pub map_in : {A B : Type 0} (f : A → B) (L : List A) (x : A) → In x L → In (f x) (map f L)
+map_in {A = A} {B = B} f [] x x3 = elim x3 [ ]
 map_in f (y ∷ L) x (inl e) = inl (ap f e)
 map_in f (y ∷ L) x (inr i) = inr (map_in f L x i)
 

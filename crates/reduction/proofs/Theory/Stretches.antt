@@ -104,6 +104,7 @@ smallest_start z (r ∷ L) = omega (arith, smallest_start z L)
 
 smallest_all : (z : ℕ) (L : List Range) (r : Range) → In r L → smallest_z z L ≤ r.z
 unfolding smallest_z
+smallest_all z [] r x' = elim x' [ ]
 smallest_all z (x ∷ L) r (inl e) = rw e (omega arith)
 smallest_all z (x ∷ L) r (inr i) = omega (arith, smallest_all z L r i)
 
@@ -139,6 +140,7 @@ merged_facts a b (x ∷ L) s (inl e) =
 
 merged_holds : (a b : ℕ) (L : List Range) (r : Range) → In r L → (s : Range) × In s (merged a b L)
 unfolding merged
+merged_holds a b [] r i = elim i [ ]
 merged_holds a b (x ∷ L) r i = (piece a b (smallest_z x.z L), inl refl)
 
 merged_single : (a b : ℕ) (L : List Range) → FileOrder (merged a b L)

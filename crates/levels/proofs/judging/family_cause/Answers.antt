@@ -10,16 +10,13 @@ use Rattle.levels.proofs.Files.Listed.{header_few}
 use Rattle.levels.proofs.Calls.LevelCauses.{listing_clear}
 use Rattle.levels.proofs.Calls.Judging.{order_few}
 use Rattle.levels.proofs.judging.family_cause.Goals as goal
-use Rattle.levels.proofs.judging.family_cause.Goals.{After-order_distinct-distinct, Start}
-
-abbrev bytesOfFile : Start → List ℕ
-bytesOfFile c = c.args.file.now
+use Rattle.levels.proofs.judging.family_cause.Goals.{After-order_distinct-distinct}
 
 -- the order as it is lent
 abbrev lent : After-order_distinct-distinct → List ℕ
 lent c = take (c.order_distinct-distinct.result - 0) c.order_distinct-distinct.new.order
 
-distinct-lent : (c : After-order_distinct-distinct) → Distinct (bytesOfFile c.before.before.before.before) (lent c)
+distinct-lent : (c : After-order_distinct-distinct) → Distinct c.args.file.now (lent c)
 distinct-lent c =
     record {
       headed = c.requires.headed.0;
@@ -29,7 +26,7 @@ distinct-lent c =
 
 fits : (c : After-order_distinct-distinct) → c.order_distinct-distinct.result ≤ length c.order_distinct-distinct.new.order
 fits c =
-    omega (arith, c.order_distinct-distinct.ensures.value, order_few ((c.args.file.now)) c.requires.headed.1, header_few ((c.args.file.now)) c.requires.headed.0, c.order_distinct-distinct.auto.order)
+    omega (arith, c.order_distinct-distinct.ensures.value, order_few c.args.file.now c.requires.headed.1, header_few c.args.file.now c.requires.headed.0, c.order_distinct-distinct.auto.order)
 
 pub order_distinct-distinct-requires : goal.order_distinct-distinct-requires
 order_distinct-distinct-requires c =
@@ -58,11 +55,11 @@ slice_bounds-place_cause-end c =
 
 pub place_cause-requires : goal.place_cause-requires
 place_cause-requires c =
-    record { distinct = distinct-lent (goal.at.place_cause-requires c).After-order_distinct-distinct; nested = subst (λ (r : ℕ). Nested (bytesOfFile (goal.at.place_cause-requires c).Start) (lent (goal.at.place_cause-requires c).After-order_distinct-distinct) c.nesting_cause-nesting.new.levels r) c.if-nesting-ne0.false c.nesting_cause-nesting.ensures.nested }
+    record { distinct = distinct-lent (goal.at.place_cause-requires c).After-order_distinct-distinct; nested = subst (λ (r : ℕ). Nested c.args.file.now (lent (goal.at.place_cause-requires c).After-order_distinct-distinct) c.nesting_cause-nesting.new.levels r) c.if-nesting-ne0.false c.nesting_cause-nesting.ensures.nested }
 
 pub returns : goal.returns
 returns c =
-    let s = bytesOfFile (goal.at.returns c).Start in
+    let s = c.args.file.now in
     let nested = c.nesting_cause-nesting.ensures in
     record {
       first_nesting = λ h. absurd (h (sym nested.nested.first ∙ c.if-nesting-ne0.false));

@@ -12,21 +12,16 @@ use Rattle.levels.specs.Levels.{listed_family}
 use Rattle.levels.proofs.Files.Listed.{header_facts, header_few}
 use Rattle.levels.proofs.Calls.Judging.{front_of, listed_length, listing_of}
 use Rattle.levels.proofs.judging.listing_cause.Goals as goal
-use Rattle.levels.proofs.judging.listing_cause.Goals.{After-shared_slice_known-1, After-write_as_listed, Start}
-
-abbrev bytesOfFile : Start → List ℕ
-bytesOfFile c = c.args.file.now
-
-bytes : (c : After-shared_slice_known-1) → IsBytes (bytesOfFile c.before)
-bytes c i = omega (arith, c.shared_slice_known-1.given i)
+use Rattle.levels.proofs.judging.listing_cause.Goals.{After-write_as_listed}
 
 -- what the reader judges
-plain : (c : After-write_as_listed) → take (length (bytesOfFile c.before.before.before.before) - 128 - 0) c.write_as_listed.new.out ≡ file_of (listed_family (bytesOfFile c.before.before.before.before))
+plain : (c : After-write_as_listed) → take (length c.args.file.now - 128 - 0) c.write_as_listed.new.out ≡ file_of (listed_family c.args.file.now)
 plain c =
-    let s = (c.args.file.now) in
+    let s = c.args.file.now in
     let G = listed_family s in
+    let bytes : IsBytes s = λ i. omega (arith, c.type_inv.file i) in
     rw (sub-zero (length s - 128), c.write_as_listed.ensures)
-    (front_of (file_of G) _ (length s - 128) (listed_length s (bytes c.before.before.before) c.requires.headed))
+    (front_of (file_of G) _ (length s - 128) (listed_length s bytes c.requires.headed))
 
 pub write_as_listed-requires : goal.write_as_listed-requires
 write_as_listed-requires c =
@@ -42,7 +37,8 @@ slice_bounds-listing_cause-end c =
 
 pub returns : goal.returns
 returns c =
-    let s = bytesOfFile (goal.at.returns c).Start in
+    let s = c.args.file.now in
+    let bytes : IsBytes s = λ i. omega (arith, c.type_inv.file i) in
     c.listing_cause-cause.ensures
     ∙ ap (λ (l : List ℕ). first_cause (header_causes l ++ listing_causes (family_of l))) (plain (goal.at.returns c).After-write_as_listed)
-    ∙ listing_of s (bytes (goal.at.returns c).After-shared_slice_known-1) c.requires.headed
+    ∙ listing_of s bytes c.requires.headed

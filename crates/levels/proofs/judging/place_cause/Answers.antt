@@ -2,7 +2,6 @@
 use Prim.Native.Nat.{ℕ}
 use native.Mathlib.Omega.{arith}
 use mathlib.Core.Bool.{false}
-use mathlib.Core.List.{List}
 use mathlib.Core.Path.{◌≡◌, refl, sym, ap, ◌∙◌}
 use Rattle.reader.specs.Family.{region_count, region}
 use Rattle.reader.proofs.Parsed.{regions_read}
@@ -13,19 +12,18 @@ use Rattle.levels.proofs.Files.Listed.{header_facts, header_few, listed_regions}
 use Rattle.levels.proofs.Calls.LevelCauses.{listing_clear}
 use Rattle.levels.proofs.Calls.Judging.{numbers_of, few_of, left_out, none_left_out, levels_placed, place_16, place_26, place_27, place_0, wrong_27, right_27}
 use Rattle.levels.proofs.judging.place_cause.Goals as goal
-use Rattle.levels.proofs.judging.place_cause.Goals.{After-region_count, Else-bad_counts, Else-order-region_count, Start}
+use Rattle.levels.proofs.judging.place_cause.Goals.{After-region_count, Else-bad_counts, Else-order-region_count}
 
-abbrev bytesOfFile : Start → List ℕ
-bytesOfFile c = c.args.file.now
+count : (c : After-region_count) → c.region_count.result ≡ region_count (listed_family c.args.file.now)
+count c = c.region_count.ensures ∙ omega (arith, regions_read c.args.file.now, listed_regions c.args.file.now)
 
-count : (c : After-region_count) → c.region_count.result ≡ region_count (listed_family (bytesOfFile c.before.before.before.before.before.before.before))
-count c = c.region_count.ensures ∙ omega (arith, regions_read ((c.args.file.now)), listed_regions ((c.args.file.now)))
-
-no26 : (c : Else-bad_counts) → cause26 (counts_in (bytesOfFile c.before.before.before.before.before.before)) (region_count (listed_family (bytesOfFile c.before.before.before.before.before.before))) ≡ false
+no26 : (c : Else-bad_counts) → cause26 (counts_in c.args.file.now) (region_count (listed_family c.args.file.now)) ≡ false
 no26 c = sym c.bad_counts.ensures ∙ c.if-bad_counts.false
 
-none-repeats : (c : Else-order-region_count) → repeated (listed_family (bytesOfFile c.before.before.before.before.before.before.before.before)) ≡ false
-none-repeats c = none_left_out _ _ c.requires.distinct (omega (arith, c.if-order-region_count.false, (c.region_count.ensures ∙ omega (arith, regions_read ((c.args.file.now)), listed_regions ((c.args.file.now))))))
+none-repeats : (c : Else-order-region_count) → repeated (listed_family c.args.file.now) ≡ false
+none-repeats c =
+    let s = c.args.file.now in
+    none_left_out _ _ c.requires.distinct (omega (arith, c.if-order-region_count.false, c.region_count.ensures, regions_read s, listed_regions s))
 
 pub overflow_sub-file : goal.overflow_sub-file
 overflow_sub-file c =
@@ -49,7 +47,7 @@ returns-then-order-region_count c =
 
 pub place_levels-requires : goal.place_levels-requires
 place_levels-requires c =
-    let s = bytesOfFile start in
+    let s = c.args.file.now in
     let few = header_few s c.requires.distinct.headed in
     let nested = c.requires.nested in record {
       order_in_bounds = omega (arith, few, few_of _ _ c.requires.distinct, nested.room);
@@ -62,7 +60,7 @@ place_levels-requires c =
 
 pub wrong_levels-requires : goal.wrong_levels-requires
 wrong_levels-requires c =
-    let s = bytesOfFile start in record { headed = (c.requires.distinct.headed, (listing_clear s c.requires.distinct.sound).1); levels_below = levels_placed _ _ c.requires.distinct (none-repeats (goal.at.wrong_levels-requires c).Else-order-region_count) c.args.levels.now c.place_levels.new.placed c.requires.nested c.place_levels.ensures; file_in_bounds = omega (arith, header_few s c.requires.distinct.headed, c.place_levels.auto.placed); file_value = counts_add _ _ (no26 (goal.at.wrong_levels-requires c).Else-bad_counts) }
+    let s = c.args.file.now in record { headed = (c.requires.distinct.headed, (listing_clear s c.requires.distinct.sound).1); levels_below = levels_placed _ _ c.requires.distinct (none-repeats (goal.at.wrong_levels-requires c).Else-order-region_count) c.args.levels.now c.place_levels.new.placed c.requires.nested c.place_levels.ensures; file_in_bounds = omega (arith, header_few s c.requires.distinct.headed, c.place_levels.auto.placed); file_value = counts_add _ _ (no26 (goal.at.wrong_levels-requires c).Else-bad_counts) }
 
 pub returns-then-wrong_levels : goal.returns-then-wrong_levels
 returns-then-wrong_levels c =

@@ -1,9 +1,8 @@
-use Prim.Native.Nat.{ℕ, ◌-◌}
+use Prim.Native.Nat.{ℕ}
 use native.Mathlib.Omega.{arith}
 use mathlib.Core.Bool.{not}
 use mathlib.Core.Path.{ap₂, ◌∙◌}
 use lib.Dec.{eqb}
-use Rattle.reader.specs.Lists as lists
 use Rattle.reader.proofs.Parsed.{regions_read}
 use Rattle.levels.specs.Causes.{cause26}
 use Rattle.levels.proofs.Files.Listed.{listed_regions}

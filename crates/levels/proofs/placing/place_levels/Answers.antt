@@ -1,4 +1,3 @@
-use Prim.Native.Nat.{◌-◌}
 use native.Mathlib.Omega.{arith}
 use mathlib.Core.Path.{refl}
 use lib.ListN.{length-set}
@@ -17,11 +16,11 @@ bounds-levels-i c =
 
 pub overflow_cast-placed : goal.overflow_cast-placed
 overflow_cast-placed c =
-    let small = c.shared_slice_known-in-loop-i-1.given c.loop-i.i in search rules
+    let small = c.type_inv.order c.loop-i.i in search rules
 
 pub offset_bounds-placed-order : goal.offset_bounds-placed-order
 offset_bounds-placed-order c =
-    let small = c.shared_slice_known-in-loop-i-1.given c.loop-i.i in search rules
+    let small = c.type_inv.order c.loop-i.i in search rules
 
 pub bounds-placed-order : goal.bounds-placed-order
 bounds-placed-order c =

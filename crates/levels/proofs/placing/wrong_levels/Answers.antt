@@ -1,20 +1,15 @@
-use Prim.Native.Nat.{ℕ, ◌+◌, ◌≤◌, ◌-◌}
+use Prim.Native.Nat.{◌+◌, ◌≤◌}
 use native.Mathlib.Omega.{arith}
-use mathlib.Core.Bool.{Bool, false}
-use mathlib.Core.List.{List}
 use mathlib.Core.Path.{◌≡◌, sym, ◌∙◌}
 use lib.ListN.{get_or}
-use Rattle.reader.specs.Lists.{sum, some_below}
+use Rattle.reader.specs.Lists.{sum}
 use Rattle.reader.proofs.Below.{none_below_zero, none_more, some_at}
-use Rattle.levels.specs.Levels.{listed_family, counts_in}
-use Rattle.levels.specs.Causes.{misleveled}
+use Rattle.levels.specs.Levels.{counts_in}
 use Rattle.levels.proofs.Files.Listed.{header_few, count_at}
 use Rattle.levels.proofs.Finding.PlaceLaws.{counts_none, counts_more, level_fits}
+use Rattle.levels.proofs.placing.wrong_levels.Invariants.{wrong_in}
 use Rattle.levels.proofs.placing.wrong_levels.Goals as goal
 use Rattle.levels.proofs.placing.wrong_levels.Goals.{After-number_at-count}
-
-abbrev wrongIn : List ℕ → ℕ → Bool
-wrongIn s h = some_below (get_or (counts_in s) h 0) (λ i. misleveled (counts_in s) (listed_family s) h i)
 
 count : (c : After-number_at-count) → c.number_at-count.result ≡ get_or (counts_in c.args.file.now) c.loop-h.h 0
 count c = c.number_at-count.ensures ∙ sym (count_at c.args.file.now c.loop-h.h (omega arith))
@@ -25,7 +20,7 @@ fits c = omega (arith, c.loop-h.invariant.1, c.number_at-count.ensures, level_fi
 
 pub loop-h-init : goal.loop-h-init
 loop-h-init c =
-    (omega arith, counts_none c.args.file.now, none_below_zero (wrongIn c.args.file.now))
+    (omega arith, counts_none c.args.file.now, none_below_zero (wrong_in c.args.file.now))
 
 pub wrong_in_level-requires : goal.wrong_in_level-requires
 wrong_in_level-requires c =
@@ -33,7 +28,7 @@ wrong_in_level-requires c =
 
 pub returns-then-wrong_in_level : goal.returns-then-wrong_in_level
 returns-then-wrong_in_level c =
-    sym (some_at (wrongIn c.args.file.now) 64 c.loop-h.h (omega arith) (rw (c.wrong_in_level.ensures, count (goal.at.returns-then-wrong_in_level c).After-number_at-count) at c.if-wrong_in_level.true))
+    sym (some_at (wrong_in c.args.file.now) 64 c.loop-h.h (omega arith) (rw (c.wrong_in_level.ensures, count (goal.at.returns-then-wrong_in_level c).After-number_at-count) at c.if-wrong_in_level.true))
 
 pub overflow_add-start : goal.overflow_add-start
 overflow_add-start c =
@@ -44,7 +39,7 @@ loop-h-preserved c =
     let l = c.loop-h in (
       omega arith,
       omega (arith, counts_more c.args.file.now l.h (omega arith), l.invariant.1, c.number_at-count.ensures),
-      none_more (wrongIn c.args.file.now) l.h l.invariant.2 (rw (c.wrong_in_level.ensures, count (goal.at.loop-h-preserved c).After-number_at-count) at c.if-wrong_in_level.false),
+      none_more (wrong_in c.args.file.now) l.h l.invariant.2 (rw (c.wrong_in_level.ensures, count (goal.at.loop-h-preserved c).After-number_at-count) at c.if-wrong_in_level.false),
     )
 
 pub returns : goal.returns

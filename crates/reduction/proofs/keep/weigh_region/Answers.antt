@@ -1,0 +1,39 @@
+-- The three cases: no parent, a parent with the same stretch, a parent with another one.
+-- the number at hand is that of the parent
+use mathlib.Core.Path.{sym, ◌∙◌, subst}
+use Rattle.reader.specs.Family.{family_of, region}
+use Rattle.reader.specs.WellFormed.{IsParent}
+use Rattle.reader.proofs.Parsed.{held_z}
+use Rattle.reduction.proofs.Keeping.Weighing.{weighed_outermost}
+use Rattle.reduction.proofs.Keeping.Bounding.{weigh_same, weigh_other}
+use Rattle.reduction.proofs.keep.weigh_region.Goals as goal
+use Rattle.reduction.proofs.keep.weigh_region.Goals.{After-nth-number}
+
+is-parent : (c : After-nth-number) → IsParent (family_of c.args.file.now) c.args.k c.nth-number.result
+is-parent c =
+    let pre = c.requires in
+    subst (IsParent (family_of c.args.file.now) c.args.k) (sym c.nth-number.ensures) (pre.parents_below c.args.k pre.k_bound)
+
+pub returns-then-number-eq0 : goal.returns-then-number-eq0
+returns-then-number-eq0 c s =
+    let F = family_of c.args.file.now in
+    let k = c.args.k in
+    let pre = c.requires in
+    rw (held_z _ (region F k) c.region_of-region.ensures)
+    (weighed_outermost pre.with_stretches.well_formed k pre.k_bound (subst (IsParent F k) c.if-number-eq0.true (is-parent (goal.at.returns-then-number-eq0 c).After-nth-number)))
+
+pub returns-then-same_stretch : goal.returns-then-same_stretch
+returns-then-same_stretch c s =
+    let F = family_of c.args.file.now in
+    let k = c.args.k in
+    let pre = c.requires in
+    rw (c.smaller.ensures, held_z _ (region F k) c.region_of-region.ensures, c.nth-parent_least.ensures, c.nth-parent_around.ensures)
+    (weigh_same pre.with_stretches c.args.least.now c.args.around.now k c.nth-number.result pre.k_bound c.if-number-eq0.false (is-parent (goal.at.returns-then-same_stretch c).After-nth-number) pre.weighed_below s (sym c.same_stretch.ensures ∙ c.if-same_stretch.true))
+
+pub returns : goal.returns
+returns c s =
+    let F = family_of c.args.file.now in
+    let k = c.args.k in
+    let pre = c.requires in
+    rw (c.smaller-2.ensures, held_z _ (region F k) c.region_of-region.ensures, c.nth-parent_least.ensures, c.nth-parent_around.ensures)
+    (weigh_other pre.with_stretches c.args.least.now c.args.around.now k c.nth-number.result pre.k_bound c.if-number-eq0.false (is-parent (goal.at.returns c).After-nth-number) pre.weighed_below s (sym c.same_stretch.ensures ∙ c.if-same_stretch.false))

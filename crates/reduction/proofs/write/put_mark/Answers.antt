@@ -1,0 +1,23 @@
+-- Four stores, one for each byte of the mark.
+use native.Mathlib.Omega.{arith}
+use lib.ListN.{length-set}
+use mathlib.Core.Path.{refl}
+use Rattle.reader.specs.Family.{mark}
+use Rattle.reduction.proofs.write.put_mark.Goals as goal
+
+pub bounds-out-1 : goal.bounds-out-1
+bounds-out-1 c =
+    simp length-set (omega arith)
+
+pub bounds-out-2 : goal.bounds-out-2
+bounds-out-2 c =
+    simp length-set (omega arith)
+
+pub bounds-out-3 : goal.bounds-out-3
+bounds-out-3 c =
+    simp length-set (omega arith)
+
+pub returns : goal.returns
+unfolding mark
+returns c =
+    refl
