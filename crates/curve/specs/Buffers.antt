@@ -1,6 +1,6 @@
 -- The buffers of the program: how much of each file is read, and how long the text can be.
 use Rattle.std.specs.Prelude.{ℕ, ◌+◌, ◌*◌, ◌≡◌, List, length}
-use Rattle.io.specs.Counts.{IsPrefixLen}
+use Rattle.std.specs.Counts.{IsPrefixLen}
 
 -- the first 57,355 bytes of family.phf are read: one more than the header, 4,096 leaves and 8,191 regions have
 abbrev pub family_room : ℕ

@@ -9,6 +9,6 @@ mod text;
 use input::{read_family, read_path};
 use output::{print, render};
 
-fn main() {
-    print(render(read_family(), read_path()));
+fn main(rt: HostRuntime) {
+    print(&rt, render(read_family(&rt), read_path(&rt)));
 }

@@ -9,7 +9,6 @@ ghost use Rattle.curve.specs.Buffers.{family_room, path_room, text_room, Held};
 use crate::input::{FamilyBytes, PathBytes, decode};
 use crate::text::{put_refusal, put_table};
 use bounds::Curved;
-use libc::{STDERR_FILENO, STDOUT_FILENO};
 use reader::Checked;
 
 // The heading has 21 bytes, and each of at most 4,097 lines four numbers of at most 5 digits with a byte after each:
@@ -85,16 +84,13 @@ pub(crate) fn render(family: FamilyBytes, path: PathBytes) -> Text
     Text { bytes, length }
 }
 
-// A program has no exit status, so a line on standard error tells a cut table from a whole one.
-pub(crate) fn print(text: Text)
+// A line on standard error tells a cut table from a whole one.
+pub(crate) fn print(rt: &(impl Print + Eprint), text: Text)
     requires { Held text_room text.bytes text.length }
 {
     let bytes = text.bytes;
     let length = text.length;
-    if !io::write_all(STDOUT_FILENO, &bytes[0..length]) {
-        io::write_all(
-            STDERR_FILENO,
-            b"curve: the output could not be written whole\n",
-        );
+    if rt.write_all(&bytes[0..length]).is_err() {
+        let _ = rt.eprintln("curve: the output could not be written whole");
     }
 }

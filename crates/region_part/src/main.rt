@@ -2,15 +2,29 @@
 // own memory, so this is what a test of that call runs.
 #![tactic(auto)]
 
-use libc::STDOUT_FILENO;
+ghost use Rattle.std.specs.Counts.{IsPrefixLen};
 
-fn main() {
-    let file = os::open_read(b"family.phf");
-    if file < 0 {
-        return;
+use std::fs::File;
+use std::io::Read;
+
+// Reads until the buffer is full, the file ends or a read fails; returns how many bytes were read.
+fn read_full(file: &mut impl Read, bytes: &mut [u8]) -> usize
+    ensures { IsPrefixLen result bytes.new }
+{
+    let mut done = 0;
+    while done < bytes.len() {
+        match file.read(&mut bytes[done..]) {
+            Ok(more) if more > 0 => done += more,
+            _ => return done,
+        }
     }
-    let mut family = [0u8; 57355];
-    let n = io::read_full(file, &mut family);
-    libc::close(file);
-    io::write_all(STDOUT_FILENO, reader::regions(&family[0..n]));
+    done
+}
+
+fn main(rt: HostRuntime) {
+    if let Ok(mut file) = File::open(&rt, "family.phf") {
+        let mut family = [0u8; 57355];
+        let n = read_full(&mut file, &mut family);
+        let _ = rt.write_all(reader::regions(&family[0..n]));
+    }
 }
