@@ -16,7 +16,7 @@ use Rattle.reader.proofs.Bools.{passes}
 use Rattle.bounds.specs.Ranges.{Range, Peptides, has, card, count, In}
 use Rattle.bounds.proofs.Basics.Members.{clash, and_l, and_r, and_both, refuted, le_or_lt}
 use Rattle.bounds.proofs.Basics.Counting.{Subset, none, adding, adding_it, adding_old, adding_other, adding_either, card_none, card_less, card_but_one, count_none, count_mono, count_adding_most, count_adding_other}
-use Rattle.bounds.proofs.Basics.Nesting.{Has, has_facts, Inside, inner}
+use Rattle.bounds.proofs.Basics.Nesting.{Has, has_facts, Inside}
 use Rattle.bounds.proofs.Theory.Laminar.{Fit, is_inside, is_around, is_before, is_after, fit}
 use Rattle.bounds.proofs.Theory.Greedy.{Respects}
 use Rattle.reduction.proofs.Basics.Unless.{le_unless}

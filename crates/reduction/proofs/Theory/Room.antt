@@ -10,7 +10,7 @@ use Rattle.bounds.specs.Ranges.{Range, Peptides, has, In, sum_over, parts, count
 use Rattle.bounds.specs.Bound.{total, value}
 use Rattle.bounds.proofs.Basics.Members.{clash}
 use Rattle.bounds.proofs.Basics.Counting.{Subset, none, count_none}
-use Rattle.bounds.proofs.Basics.Nesting.{has_facts, has_holds, Inside, inner, inner_facts}
+use Rattle.bounds.proofs.Basics.Nesting.{has_facts, has_holds, Inside, inner_facts}
 use Rattle.bounds.proofs.Theory.Laminar.{Laminar, Fit, is_inside, is_around, is_before, is_after, fit, member_hosts}
 use Rattle.bounds.proofs.Theory.Totals.{total_is}
 use Rattle.bounds.proofs.Theory.Formula.{at_most_lem}

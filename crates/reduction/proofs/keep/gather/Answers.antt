@@ -1,4 +1,4 @@
-use Prim.Native.Nat.{◌+◌, ◌-◌, ◌≤◌, ◌<◌}
+use Prim.Native.Nat.{◌+◌, ◌≤◌, ◌<◌}
 use mathlib.Core.Path.{◌≡◌, refl, sym, ◌∙◌}
 use native.Mathlib.Omega.{arith}
 use lib.ListN.{get_or, length-set}
@@ -16,15 +16,15 @@ is-kept : (c : After-nth-last) → 1 ≤ get_or c.args.kept.now c.loop-k.k 0
 is-kept c = let z = c.if-z-ne0.true in omega (arith, c.nth-z.ensures)
 
 first_is : (c : After-nth-last) → c.nth.result ≡ first_at (family_of c.args.file.now) c.loop-k.k
-first_is c = c.nth.ensures ∙ c.requires.with_stretches.firsts c.loop-k.k ((omega (arith, c.loop-k-test.true, c.loop-k.invariant.2)))
+first_is c = c.nth.ensures ∙ c.requires.with_stretches.firsts c.loop-k.k (omega (arith, c.loop-k-test.true, c.loop-k.invariant.2))
 
 last-is : (c : After-nth-last) → c.nth-last.result ≡ last_at (family_of c.args.file.now) c.loop-k.k
-last-is c = c.nth-last.ensures ∙ c.requires.with_stretches.lasts c.loop-k.k ((omega (arith, c.loop-k-test.true, c.loop-k.invariant.2)))
+last-is c = c.nth-last.ensures ∙ c.requires.with_stretches.lasts c.loop-k.k (omega (arith, c.loop-k-test.true, c.loop-k.invariant.2))
 
 passed-it : (c : After-nth-last) → Passed (family_of c.args.file.now) c.args.kept.now (c.loop-k.k + 1) (c.nth.result + 1)
 passed-it c =
     let pre = c.requires in
-    passed_place pre.with_stretches.well_formed c.args.kept.now pre.kept_marked c.loop-k.k c.nth.result ((omega (arith, c.loop-k-test.true, c.loop-k.invariant.2))) (is-kept c) (first_is c)
+    passed_place pre.with_stretches.well_formed c.args.kept.now pre.kept_marked c.loop-k.k c.nth.result (omega (arith, c.loop-k-test.true, c.loop-k.invariant.2)) (is-kept c) (first_is c)
 
 -- the stretch is the next range of the list
 room : (c : After-append_runs-n) → c.append_runs-n.result < region_count (family_of c.args.file.now)
@@ -33,8 +33,7 @@ room c =
     let F = family_of c.args.file.now in
     let C = c.args.kept.now in
     let k = c.loop-k.k in
-    let l = c.append_runs-n.new.1.1.1.1 in
-    place_room pre.with_stretches.well_formed C pre.kept_marked k c.append_runs-n.result c.append_runs-n.new.from c.append_runs-n.new.to c.append_runs-n.new.bounds ((omega (arith, c.loop-k-test.true, c.loop-k.invariant.2))) ((let z = c.if-z-ne0.true in omega (arith, c.nth-z.ensures))) c.nth.result (last_at F k) (get_or C k 0) ((c.nth.ensures ∙ c.requires.with_stretches.firsts c.loop-k.k ((omega (arith, c.loop-k-test.true, c.loop-k.invariant.2))))) refl refl
+    place_room pre.with_stretches.well_formed C pre.kept_marked k c.append_runs-n.result c.append_runs-n.new.from c.append_runs-n.new.to c.append_runs-n.new.bounds (omega (arith, c.loop-k-test.true, c.loop-k.invariant.2)) (let z = c.if-z-ne0.true in omega (arith, c.nth-z.ensures)) c.nth.result (last_at F k) (get_or C k 0) (c.nth.ensures ∙ c.requires.with_stretches.firsts c.loop-k.k (omega (arith, c.loop-k-test.true, c.loop-k.invariant.2))) refl refl
     (c.append_runs-n.ensures (of_first F C k) c.loop-k.invariant.7)
 
 pub loop-k-init : goal.loop-k-init
@@ -117,9 +116,7 @@ loop-k-preserved-then-z-ne0 c =
     let F = family_of c.args.file.now in
     let C = c.args.kept.now in
     let k = c.loop-k.k in
-    let inv = c.loop-k.invariant in
-    let l = c.append_runs-n.new.1.1.1.1 in
-    let same = c.append_runs-n.auto.1.1.1.1 in (
+    let inv = c.loop-k.invariant in (
       omega (arith, c.loop-k-test.true),
       inv.1,
       inv.2,
@@ -189,6 +186,5 @@ returns c =
     let C = c.args.kept.now in
     let inv = c.loop-k.invariant in
     let k = c.loop-k.k in
-    let l = c.append_runs.new.1.1.1.1 in
-    listed_all s pre.with_stretches.well_formed C pre.kept_marked k (c.peptide_count-peptides.result + 1) c.append_runs.result c.append_runs-n.new.from c.append_runs-n.new.to c.append_runs-n.new.bounds
+    listed_all s pre.with_stretches.well_formed C pre.kept_marked k (c.peptide_count-peptides.result + 1) c.append_runs.result c.append_runs.new.from c.append_runs.new.to c.append_runs.new.bounds
     (omega (arith, inv.0, inv.2, c.loop-k-test.false)) (omega (arith, inv.1)) (c.append_runs.ensures (of_first (family_of s) C k) inv.7)

@@ -1,5 +1,5 @@
 -- The loop has marked the regions from the k-th on, and knows the next one with a stretch.
-use Prim.Native.Nat.{◌-◌, ◌≤◌}
+use Prim.Native.Nat.{◌≤◌}
 use mathlib.Core.Path.{◌≡◌}
 use lib.ListN.{length}
 use Rattle.reader.specs.Family.{family_of, region_count}

@@ -1,5 +1,4 @@
 -- The loop has ended the regions inside the open one, which reaches the leaf.
-use Prim.Native.Nat.{◌-◌}
 use mathlib.Core.Path.{◌≡◌}
 use lib.ListN.{length}
 use Rattle.reader.specs.Family.{family_of}

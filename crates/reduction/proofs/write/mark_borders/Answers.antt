@@ -1,4 +1,4 @@
-use Prim.Native.Nat.{◌≤◌, ◌<◌, ◌-◌}
+use Prim.Native.Nat.{◌≤◌, ◌<◌}
 use native.Mathlib.Omega.{arith}
 use mathlib.Core.Path.{◌≡◌, refl, ◌∙◌}
 use lib.ListN.{length, get_or, length-set}
@@ -33,7 +33,7 @@ overflow_sub-borders c =
 
 pub overflow_cast-borders-in-loop-k : goal.overflow_cast-borders-in-loop-k
 overflow_cast-borders-in-loop-k c =
-    omega (arith, c.shared_slice_known-1.given c.loop-k.k)
+    omega (arith, c.type_inv.from c.loop-k.k)
 
 pub bounds-borders-from : goal.bounds-borders-from
 bounds-borders-from c =
@@ -41,7 +41,7 @@ bounds-borders-from c =
 
 pub overflow_cast-borders-in-loop-k-2 : goal.overflow_cast-borders-in-loop-k-2
 overflow_cast-borders-in-loop-k-2 c =
-    omega (arith, c.shared_slice_known-in-loop-k-1.given c.loop-k.k)
+    omega (arith, c.type_inv.to c.loop-k.k)
 
 pub bounds-borders-to : goal.bounds-borders-to
 bounds-borders-to c =

@@ -12,15 +12,16 @@ use Rattle.reduction.proofs.Writing.LeafEnds.{region_numbers_none, regions_more}
 use Rattle.reduction.proofs.write.write_regions.Goals as goal
 use Rattle.reduction.proofs.write.write_regions.Goals.{After-borders_between, After-borders_between-before, In-loop-k}
 
-record KthRange (c : tie.In-loop invariant-loop decreases-loop) : Type 0 where
-  here : c.before.loop.k < c.before.before.before.before.before.before.before.args.n
-  first : 1 ≤ get_or c.before.before.before.before.before.before.before.args.from.now c.before.loop.k 0
-  order : get_or c.before.before.before.before.before.before.before.args.from.now c.before.loop.k 0 ≤ get_or c.before.before.before.before.before.before.before.args.to.now c.before.loop.k 0
-  last : get_or c.before.before.before.before.before.before.before.args.to.now c.before.loop.k 0 ≤ c.before.before.before.before.before.before.before.args.m
-  few : c.before.before.before.before.before.before.before.args.m ≤ 4096
-  onward : c.before.loop.passed ≤ get_or c.before.before.before.before.before.before.before.args.from.now c.before.loop.k 0 - 1
+-- the k-th range lies on the line, and not before the peptide passed
+record KthRange (m n passed k : ℕ) (from to : List ℕ) : Type 0 where
+  here : k < n
+  first : 1 ≤ get_or from k 0
+  order : get_or from k 0 ≤ get_or to k 0
+  last : get_or to k 0 ≤ m
+  few : m ≤ 4096
+  onward : passed ≤ get_or from k 0 - 1
 
-on_line : (c : In-loop-k) → KthRange c
+on_line : (c : In-loop-k) → KthRange c.args.m c.args.n c.loop-k.passed c.loop-k.k c.args.from.now c.args.to.now
 on_line c =
     let p = c.requires in
     let k = c.loop-k.k in
@@ -42,7 +43,7 @@ low_count c = omega (arith, c.borders_between-before.ensures, c.loop-k.invariant
 -- and those up to its end
 high-count : (c : After-borders_between)
     → c.loop-k.before + c.borders_between-before.result + c.borders_between.result ≡ card (get_or c.args.to.now c.loop-k.k 0) (marked_in c.args.borders.now)
-high-count c = omega (arith, c.borders_between.ensures, (omega (arith, c.borders_between-before.ensures, c.loop-k.invariant.3)))
+high-count c = omega (arith, c.borders_between.ensures, c.borders_between-before.ensures, c.loop-k.invariant.3)
 
 pub loop-k-init : goal.loop-k-init
 unfolding card
@@ -64,11 +65,11 @@ borders_between-before-requires c =
 
 pub overflow_add-before : goal.overflow_add-before
 overflow_add-before c =
-    omega (arith, on_line (goal.at.overflow_add-before c).In-loop-k, low_count (c), card_most (get_or c.args.from.now c.loop-k.k 0 - 1) (marked_in c.args.borders.now))
+    omega (arith, on_line (goal.at.overflow_add-before c).In-loop-k, low_count (goal.at.overflow_add-before c).After-borders_between-before, card_most (get_or c.args.from.now c.loop-k.k 0 - 1) (marked_in c.args.borders.now))
 
 pub overflow_add-first : goal.overflow_add-first
 overflow_add-first c =
-    omega (arith, on_line (goal.at.overflow_add-first c).In-loop-k, low_count (c), card_most (get_or c.args.from.now c.loop-k.k 0 - 1) (marked_in c.args.borders.now))
+    omega (arith, on_line (goal.at.overflow_add-first c).In-loop-k, low_count (goal.at.overflow_add-first c).After-borders_between-before, card_most (get_or c.args.from.now c.loop-k.k 0 - 1) (marked_in c.args.borders.now))
 
 pub borders_between-requires : goal.borders_between-requires
 borders_between-requires c =
@@ -76,7 +77,7 @@ borders_between-requires c =
 
 pub overflow_add-last : goal.overflow_add-last
 overflow_add-last c =
-    omega (arith, on_line (goal.at.overflow_add-last c).In-loop-k, high-count (c), card_most (get_or c.args.to.now c.loop-k.k 0) (marked_in c.args.borders.now))
+    omega (arith, on_line (goal.at.overflow_add-last c).In-loop-k, high-count (goal.at.overflow_add-last c).After-borders_between, card_most (get_or c.args.to.now c.loop-k.k 0) (marked_in c.args.borders.now))
 
 pub bounds-bounds-k : goal.bounds-bounds-k
 bounds-bounds-k c =
