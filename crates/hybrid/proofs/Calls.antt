@@ -22,7 +22,7 @@ use Rattle.bounds.proofs.Calls.PathLaws.{input_path, input_numbered, input_accep
 use Rattle.bounds.proofs.Calls.Answering.{path_answers, late_refused, curve_judges, curve_refuses_so}
 use Rattle.bounds.proofs.Theory.CurveTheorem.{value_at_lem}
 use Rattle.pvalues.specs.FromP.{million, cause20, cause21}
-use Rattle.pvalues.specs.Calls.{room_and_pValues}
+use Rattle.pvalues.specs.Calls.{room_and_p_values}
 use Rattle.pvalues.proofs.Judging.{inputs_none, inputs_known}
 use Rattle.hybrid.specs.Hybrid.{hybrid_entry, hybrid_values, cause23}
 use Rattle.hybrid.specs.Calls.{hybrid_inputs, hybrid_causes, HybridWrites}
@@ -65,7 +65,7 @@ module _ (file path ps : List ℕ) (level room : ℕ) where
 
   -- no number of these is 13, with which a place would come
   hybrid_not_13 : first_cause (hybrid_inputs file path ps level room) ≡ 13 → ⊥
-  unfolding hybrid_inputs room_and_pValues first_cause
+  unfolding hybrid_inputs room_and_p_values first_cause
   hybrid_not_13 = go (short (length path + 1) room) (cause20 (family_of file).peptides ps) (cause21 ps) (cause23 level)
     where
       go : (a b c d : Bool) → ◌≡◌ {A = ℕ} (cond a 16 (cond b 20 (cond c 21 (cond d 23 0)))) 13 → ⊥

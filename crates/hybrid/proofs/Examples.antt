@@ -16,7 +16,7 @@ use Rattle.bounds.specs.Bound.{total_within, total, value, bound}
 use Rattle.bounds.specs.Curves.{among, entry, curve_values, cause11, cause12, repeated, cause13}
 use Rattle.bounds.specs.Calls.{path_causes, input_causes}
 use Rattle.pvalues.specs.FromP.{cause20, cause21}
-use Rattle.pvalues.specs.Calls.{room_and_pValues}
+use Rattle.pvalues.specs.Calls.{room_and_p_values}
 use Rattle.pvalues.proofs.Examples.{eight_values}
 use Rattle.hybrid.specs.Hybrid.{p_value_of, counted_at, simes_at, least_up_to, simes, hybrid_entry, hybrid_values, cause23}
 use Rattle.hybrid.specs.Calls.{hybrid_inputs, hybrid_causes}
@@ -92,7 +92,7 @@ pub record HybridExamples : Type 0 where
   pub none : told eight_path (mixed_with 1000000) 1 9 ≡ 0
 
 pub hybrid_examples : HybridExamples
-unfolding tabulate sum same_list some_below count_below number_at bytes_of region peptides_up_to length_at region_at family_of region_fields fields mark file_of before share_leaf region_within crossing region_inside cause1 cause2 cause3 cause4 cause5 cause6 cause7 cause8 cause9 cause10 misplaced first_cause header_causes family_causes file_causes short range_of ranges_of has card count some those sum_over within inside just_inside parts outermost outside total_within total value bound among entry curve_values cause11 cause12 repeated cause13 path_causes input_causes cause20 cause21 p_value_of counted_at simes_at least_up_to simes hybrid_entry hybrid_values cause23 room_and_pValues hybrid_inputs hybrid_causes
+unfolding tabulate sum same_list some_below count_below number_at bytes_of region peptides_up_to length_at region_at family_of region_fields fields mark file_of before share_leaf region_within crossing region_inside cause1 cause2 cause3 cause4 cause5 cause6 cause7 cause8 cause9 cause10 misplaced first_cause header_causes family_causes file_causes short range_of ranges_of has card count some those sum_over within inside just_inside parts outermost outside total_within total value bound among entry curve_values cause11 cause12 repeated cause13 path_causes input_causes cause20 cause21 p_value_of counted_at simes_at least_up_to simes hybrid_entry hybrid_values cause23 room_and_p_values hybrid_inputs hybrid_causes
 hybrid_examples =
     record {
       region_values = refl;

@@ -5,13 +5,13 @@ use Rattle.reader.specs.Causes.{Cause, first_cause}
 use Rattle.reader.specs.Calls.{written, short}
 use Rattle.bounds.specs.Calls.{input_causes, path_answer, report_curve, declined_curve}
 use Rattle.bounds.specs.declared.Curved.{Curved}
-use Rattle.pvalues.specs.Calls.{room_and_pValues}
+use Rattle.pvalues.specs.Calls.{room_and_p_values}
 use Rattle.hybrid.specs.Hybrid.{hybrid_values, cause23}
 
 -- what is tried after the file and the path: values under T + 1, the p_values, then the level
 unfoldable pub hybrid_inputs : List ℕ → List ℕ → List ℕ → ℕ → ℕ → List Cause
 hybrid_inputs file path ps level room =
-    room_and_pValues (short (length path + 1) room) (family_of file).peptides ps
+    room_and_p_values (short (length path + 1) room) (family_of file).peptides ps
     ++ (record { number = 23; holds = cause23 level } ∷ [])
 
 -- the causes, in the order in which they are tried; room is the number of places for values

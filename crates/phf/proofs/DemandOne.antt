@@ -42,7 +42,7 @@ use Rattle.reduction.specs.declared.ReducedFile.{ReducedFile}
 use Rattle.reduction.specs.declared.ReducedFile.TheVariants as made
 use Rattle.reduction.specs.declared.Compared.{Compared}
 use Rattle.reduction.specs.declared.Compared.TheVariants as compared
-use Rattle.pvalues.specs.Calls.{room_and_pValues, from_pInputs, from_pCauses, file_from_p, FromPAnswers, FromPWrites}
+use Rattle.pvalues.specs.Calls.{room_and_p_values, from_p_inputs, from_p_causes, file_from_p, FromPAnswers, FromPWrites}
 use Rattle.hybrid.specs.Hybrid.{hybrid_values}
 use Rattle.hybrid.specs.Calls.{hybrid_inputs, hybrid_causes, HybridAnswers, HybridWrites, HybridDeclines}
 use Rattle.levels.specs.Levels.{level_file_of, family_file_of}
@@ -85,7 +85,7 @@ pub record DemandOne : Type 0 where
   pub cut_tries : (file path : List ℕ) (a b : ℕ) → numbers (cut_causes file path a b) ≡ 1 ∷ 2 ∷ 3 ∷ 4 ∷ 5 ∷ 6 ∷ 7 ∷ 8 ∷ 9 ∷ 10 ∷ 11 ∷ 12 ∷ 13 ∷ 15 ∷ []
   pub reduce_tries : (file out : List ℕ) → numbers (reduce_causes file out) ≡ 1 ∷ 2 ∷ 3 ∷ 4 ∷ 5 ∷ 6 ∷ 7 ∷ 8 ∷ 9 ∷ 10 ∷ 16 ∷ []
   pub same_tries : (first second : List ℕ) → numbers (compare_causes first second) ≡ 1 ∷ 2 ∷ 3 ∷ 4 ∷ 5 ∷ 6 ∷ 7 ∷ 8 ∷ 9 ∷ 10 ∷ 101 ∷ 102 ∷ 103 ∷ 104 ∷ 105 ∷ 106 ∷ 107 ∷ 108 ∷ 109 ∷ 110 ∷ []
-  pub bounds_from_p_tries : (file ps : List ℕ) (deviationSquared room : ℕ) → numbers (from_pCauses file ps deviationSquared room) ≡ 1 ∷ 2 ∷ 3 ∷ 4 ∷ 5 ∷ 6 ∷ 7 ∷ 8 ∷ 9 ∷ 10 ∷ 16 ∷ 20 ∷ 21 ∷ 22 ∷ []
+  pub bounds_from_p_tries : (file ps : List ℕ) (deviationSquared room : ℕ) → numbers (from_p_causes file ps deviationSquared room) ≡ 1 ∷ 2 ∷ 3 ∷ 4 ∷ 5 ∷ 6 ∷ 7 ∷ 8 ∷ 9 ∷ 10 ∷ 16 ∷ 20 ∷ 21 ∷ 22 ∷ []
   pub hybrid_tries : (file path ps : List ℕ) (level room : ℕ) → numbers (hybrid_causes file path ps level room) ≡ 1 ∷ 2 ∷ 3 ∷ 4 ∷ 5 ∷ 6 ∷ 7 ∷ 8 ∷ 9 ∷ 10 ∷ 11 ∷ 12 ∷ 13 ∷ 16 ∷ 20 ∷ 21 ∷ 23 ∷ []
   pub to_levels_tries : (file : List ℕ) (room : ℕ) → numbers (to_levels_causes file room) ≡ 1 ∷ 2 ∷ 3 ∷ 4 ∷ 5 ∷ 6 ∷ 7 ∷ 8 ∷ 9 ∷ 10 ∷ 16 ∷ []
   pub from_levels_tries : (file : List ℕ) (room : ℕ) → numbers (from_levels_causes file room) ≡ 1 ∷ 2 ∷ 3 ∷ 4 ∷ 5 ∷ 6 ∷ 7 ∷ 9 ∷ 10 ∷ 16 ∷ 26 ∷ 27 ∷ []
@@ -126,7 +126,7 @@ pub record DemandOne : Type 0 where
       r (λ n. record { number = n; same = 0 }) (record { number = 0; same = cond (same_list (reduced_file first) (reduced_file second)) 1 0 })
       [] [] []
   pub phf_bounds_from_p : (file ps : List ℕ) (deviationSquared : ℕ) (out new : List ℕ) (r : ℕ) → FromPAnswers file ps deviationSquared out r → FromPWrites file ps deviationSquared out new
-      → Obeys (from_pCauses file ps deviationSquared (length out)) r (λ n. n) 0 (new ∷ []) (out ∷ []) (at_start (file_from_p file ps deviationSquared) out ∷ [])
+      → Obeys (from_p_causes file ps deviationSquared (length out)) r (λ n. n) 0 (new ∷ []) (out ∷ []) (at_start (file_from_p file ps deviationSquared) out ∷ [])
   pub phf_hybrid : (file path ps : List ℕ) (level : ℕ) (values new : List ℕ) (r : PhfCurved) → PhfHybridAnswers file path ps level values r → HybridWrites file path ps level values new
       → Obeys (hybrid_causes file path ps level (length values))
       r (λ n. record { number = n; place = cond (eqb n 13) (first_repeat path) 0 }) (record { number = 0; place = 0 })
@@ -177,7 +177,7 @@ pub record DemandOne : Type 0 where
       r compared.Refused (cond (same_list (reduced_file first) (reduced_file second)) compared.Same compared.Different)
       [] [] []
   pub bounds_from_p : (file ps : List ℕ) (deviationSquared : ℕ) (out new : List ℕ) (r : ℕ) → FromPAnswers file ps deviationSquared out r → FromPWrites file ps deviationSquared out new
-      → Obeys (from_pCauses file ps deviationSquared (length out)) r (λ n. n) 0 (new ∷ []) (out ∷ []) (at_start (file_from_p file ps deviationSquared) out ∷ [])
+      → Obeys (from_p_causes file ps deviationSquared (length out)) r (λ n. n) 0 (new ∷ []) (out ∷ []) (at_start (file_from_p file ps deviationSquared) out ∷ [])
   pub hybrid : (file path ps : List ℕ) (level : ℕ) (values new : List ℕ) (r : Curved) → HybridAnswers file path ps level values r → HybridDeclines file path ps level values r → HybridWrites file path ps level values new
       → Obeys (hybrid_causes file path ps level (length values))
       r (λ n. cond (eqb n 13) (curved.Repeated (first_repeat path)) (curved.Refused n)) curved.Written
@@ -228,8 +228,8 @@ choose_obeys m ps folds rule out new r h w = number_obeys (choose_causes m ps fo
 -- `bounds_from_p`, and its name in C.
 
 from_p_obeys : (file ps : List ℕ) (deviationSquared : ℕ) (out new : List ℕ) (r : ℕ) → FromPAnswers file ps deviationSquared out r → FromPWrites file ps deviationSquared out new
-    → Obeys (from_pCauses file ps deviationSquared (length out)) r (λ n. n) 0 (new ∷ []) (out ∷ []) (at_start (file_from_p file ps deviationSquared) out ∷ [])
-from_p_obeys file ps deviationSquared out new r h w = number_obeys (from_pCauses file ps deviationSquared (length out)) r _ _ _ h (lent_one _ _ out new w)
+    → Obeys (from_p_causes file ps deviationSquared (length out)) r (λ n. n) 0 (new ∷ []) (out ∷ []) (at_start (file_from_p file ps deviationSquared) out ∷ [])
+from_p_obeys file ps deviationSquared out new r h w = number_obeys (from_p_causes file ps deviationSquared (length out)) r _ _ _ h (lent_one _ _ out new w)
 
 -- The part that holds the regions.
 
@@ -270,7 +270,7 @@ module _ (place fileAt : ℕ × ℕ) (part file : List ℕ) (h : RegionsGiven pl
   part_of_refused r = (h.bytes ∙ part_refused file r, h.part.block, omega (arith, h.part.place, start_refused file r))
 
 pub demand_one : DemandOne
-unfolding header_causes family_causes file_causes parents_causes causes_with_room list_inputs list_causes path_causes input_causes curve_causes cut_causes reduce_causes compare_causes choose_causes room_and_pValues from_pInputs from_pCauses hybrid_inputs hybrid_causes to_levels_causes from_levels_causes level_header_causes nesting_causes form_causes place_causes checked checked_fields bounded_fields listed_fields curved_fields cutting_fields reduced_fields compared_fields converted_fields value_at value_with reduced_counts comparison checked_of bounded_of reduced_of compared_of converted_of curved_of cut_found_of
+unfolding header_causes family_causes file_causes parents_causes causes_with_room list_inputs list_causes path_causes input_causes curve_causes cut_causes reduce_causes compare_causes choose_causes room_and_p_values from_p_inputs from_p_causes hybrid_inputs hybrid_causes to_levels_causes from_levels_causes level_header_causes nesting_causes form_causes place_causes checked checked_fields bounded_fields listed_fields curved_fields cutting_fields reduced_fields compared_fields converted_fields value_at value_with reduced_counts comparison checked_of bounded_of reduced_of compared_of converted_of curved_of cut_found_of
 demand_one =
     record {
       first_cause_lem = first_is;

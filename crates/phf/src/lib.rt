@@ -310,8 +310,8 @@ pub extern "C" fn phf_bounds_from_p(
     deviation_squared: u32,
     out: &mut [u8],
 ) -> u16
-    ensures from_panswers { FromPAnswers file.now p_values.now deviation_squared out.old result }
-    ensures from_pwrites { FromPWrites file.now p_values.now deviation_squared out.old out.new }
+    ensures from_p_answers { FromPAnswers file.now p_values.now deviation_squared out.old result }
+    ensures from_p_writes { FromPWrites file.now p_values.now deviation_squared out.old out.new }
 {
     pvalues::bounds_from_p(file, p_values, deviation_squared, out)
 }

@@ -24,8 +24,8 @@ use Rattle.bounds.proofs.Basics.Members.{le_or_lt}
 use Rattle.bounds.proofs.Basics.Nesting.{has_holds}
 use Rattle.bounds.proofs.Theory.EmptyRegions.{empty_holds_none}
 use Rattle.bounds.proofs.Theory.Family.{map_tabulate}
-use Rattle.pvalues.specs.FromP.{million, gap, over, passes_at, z_of, IsZ, region_pValues, bounded_region, family_from_p, cause20}
-use Rattle.pvalues.specs.Calls.{from_pCauses, file_from_p}
+use Rattle.pvalues.specs.FromP.{million, gap, over, passes_at, z_of, IsZ, region_p_values, bounded_region, family_from_p, cause20}
+use Rattle.pvalues.specs.Calls.{from_p_causes, file_from_p}
 use Rattle.pvalues.specs.AcceptedCalls.{FromPCall, new_file, new_family}
 use Rattle.pvalues.specs.Private.Lowering.{size_at}
 use Rattle.pvalues.proofs.Judging.{none_holds}
@@ -38,12 +38,12 @@ use Rattle.pvalues.proofs.NewFile.{from_p_length}
 -- The z of a region with these ends on the line of the peptides and these p_values, and where they come from.
 pub record RegionZ (F : Family) (ps : List ℕ) (deviationSquared : ℕ) (r : Region) (z : ℕ) : Type 0 where
   -- its p-values: one for each of its peptides, from low + 1 to high
-  pub one_each : length (region_pValues F ps r) ≡ (range_of F r).high - (range_of F r).low
-  pub its_own : (i : ℕ) → i < length (region_pValues F ps r) → get_or (region_pValues F ps r) i 0 ≡ get_or ps ((range_of F r).low + i) 0
+  pub one_each : length (region_p_values F ps r) ≡ (range_of F r).high - (range_of F r).low
+  pub its_own : (i : ℕ) → i < length (region_p_values F ps r) → get_or (region_p_values F ps r) i 0 ≡ get_or ps ((range_of F r).low + i) 0
   -- the largest number up to theirs that passes at all thresholds
-  pub largest : IsZ deviationSquared (region_pValues F ps r) z
+  pub largest : IsZ deviationSquared (region_p_values F ps r) z
   -- It passes at every other threshold too, so that these thresholds suffice for the source's (32).
-  pub everywhere : (t : ℕ) → passes_at deviationSquared (region_pValues F ps r) t z ≡ true
+  pub everywhere : (t : ℕ) → passes_at deviationSquared (region_p_values F ps r) t z ≡ true
   -- at most the number of its peptides
   pub most : z ≤ (range_of F r).high - (range_of F r).low
   pub none_if_empty : EmptyRegion F r → z ≡ 0
@@ -96,7 +96,7 @@ module _ (F : Family) (ps : List ℕ) (deviationSquared : ℕ) where
         last = λ k h. ap (λ (r : Region). r.last) (from_p_region k h);
       }
 
-  from_p_z : (k : ℕ) → k < region_count F → (region (family_from_p F ps deviationSquared) k).z ≡ z_of deviationSquared (region_pValues F ps (region F k))
+  from_p_z : (k : ℕ) → k < region_count F → (region (family_from_p F ps deviationSquared) k).z ≡ z_of deviationSquared (region_p_values F ps (region F k))
   unfolding bounded_region
   from_p_z k h = ap (λ (r : Region). r.z) (from_p_region k h)
 
@@ -106,8 +106,8 @@ module _ {F G : Family} (same : SameRanges F G) (ps : List ℕ) (deviationSquare
   unfolding peptides_up_to
   up_to_same i j e = rw (e, same.lengths)
 
-  values_same : (k : ℕ) → k < region_count F → region_pValues G ps (region G k) ≡ region_pValues F ps (region F k)
-  unfolding region_pValues range_of
+  values_same : (k : ℕ) → k < region_count F → region_p_values G ps (region G k) ≡ region_p_values F ps (region F k)
+  unfolding region_p_values range_of
   values_same k h =
       ap₂ (λ (low high : ℕ). take (high - low) (drop low ps)) (up_to_same _ _ (ap (λ (n : ℕ). n - 1) (same.first k h))) (up_to_same _ _ (same.last k h))
 
@@ -140,13 +140,13 @@ module _ (f : AcceptedFile) (c : FromPCall f) where
   values_counted : length c.p_values ≡ F.peptides
   values_counted = unfold cause20 in eqb-true (length c.p_values) F.peptides (not-false _ c.counted)
 
-  none : first_cause (from_pCauses f.file c.p_values c.deviation_squared (length c.old)) ≡ 0
+  none : first_cause (from_p_causes f.file c.p_values c.deviation_squared (length c.old)) ≡ 0
   none = none_holds f.file c.p_values c.deviation_squared (length c.old) f.accepted c.room c.counted c.small c.allowed
 
   z_known : (k : ℕ) → k < region_count F → (region G k).z ≤ size_at F k
   z_known k h =
       omega
-      (arith, from_p_z F c.p_values c.deviation_squared k h, z_most c.deviation_squared (region_pValues F c.p_values (region F k)), region_size given_formed c.p_values values_counted k h)
+      (arith, from_p_z F c.p_values c.deviation_squared k h, z_most c.deviation_squared (region_p_values F c.p_values (region F k)), region_size given_formed c.p_values values_counted k h)
 
   ranges : SameRanges F G
   ranges = from_p_ranges F c.p_values c.deviation_squared
@@ -163,7 +163,7 @@ module _ (f : AcceptedFile) (c : FromPCall f) where
 
   written_so : c.new ≡ file_of G ++ drop (length (file_of G)) c.old
   unfolding file_from_p
-  written_so = c.writes ∙ writes (from_pCauses f.file c.p_values c.deviation_squared (length c.old)) none (file_of G) c.old
+  written_so = c.writes ∙ writes (from_p_causes f.file c.p_values c.deviation_squared (length c.old)) none (file_of G) c.old
 
   file_is : new_file f c ≡ file_of G
   unfolding new_file
@@ -185,9 +185,9 @@ module _ (f : AcceptedFile) (c : FromPCall f) where
       (empty_holds_none F (region F k) (given_formed.ordered.first_some k h) (given_formed.ordered.first_last k h) empty (suc (range_at F k).low))))
       (le_or_lt (range_at F k).high (range_at F k).low)
 
-  own : (k i : ℕ) → i < length (region_pValues F c.p_values (region F k)) → k < region_count F
-      → get_or (region_pValues F c.p_values (region F k)) i 0 ≡ get_or c.p_values ((range_at F k).low + i) 0
-  unfolding region_pValues
+  own : (k i : ℕ) → i < length (region_p_values F c.p_values (region F k)) → k < region_count F
+      → get_or (region_p_values F c.p_values (region F k)) i 0 ≡ get_or c.p_values ((range_at F k).low + i) 0
+  unfolding region_p_values
   own k i l h =
       get_or-take (size_at F k) (drop (range_at F k).low c.p_values) i 0 (omega (arith, region_size given_formed c.p_values values_counted k h))
       ∙ get_or-drop (range_at F k).low c.p_values i 0
@@ -198,8 +198,8 @@ module _ (f : AcceptedFile) (c : FromPCall f) where
       record {
         one_each = region_size given_formed c.p_values values_counted k h;
         its_own = λ i l. own k i l h;
-        largest = rw e (z_is c.deviation_squared (region_pValues F c.p_values (region F k)));
-        everywhere = λ t. rw e (passes_everywhere c.deviation_squared (region_pValues F c.p_values (region F k)) t);
+        largest = rw e (z_is c.deviation_squared (region_p_values F c.p_values (region F k)));
+        everywhere = λ t. rw e (passes_everywhere c.deviation_squared (region_p_values F c.p_values (region F k)) t);
         most = z_known k h;
         none_if_empty = λ empty. omega (arith, z_known k h, empty_size k h empty);
       }
@@ -217,7 +217,7 @@ bounds_from_p =
       larger_constant =
           λ f c d same l k h.
           rw (family_is f c, family_is f d, from_p_z (F f c) c.p_values c.deviation_squared k h, from_p_z (F f d) d.p_values d.deviation_squared k h, same)
-          (z_mono c.deviation_squared d.deviation_squared (region_pValues (F f d) d.p_values (region (F f d) k)) l);
+          (z_mono c.deviation_squared d.deviation_squared (region_p_values (F f d) d.p_values (region (F f d) k)) l);
       raised_p_values =
           λ f c d same raised k h.
           rw (family_is f c, family_is f d, from_p_z (F f c) c.p_values c.deviation_squared k h, from_p_z (F f d) d.p_values d.deviation_squared k h, same)
@@ -229,7 +229,7 @@ bounds_from_p =
       constant_reached =
           λ f c k v h few enough.
           rw (family_is f c, from_p_z (F f c) c.p_values c.deviation_squared k h)
-          (z_enough c.deviation_squared (region_pValues (F f c) c.p_values (region (F f c) k)) v (omega (arith, region_size (given_formed f c) c.p_values (values_counted f c) k h)) enough);
+          (z_enough c.deviation_squared (region_p_values (F f c) c.p_values (region (F f c) k)) v (omega (arith, region_size (given_formed f c) c.p_values (values_counted f c) k h)) enough);
       given_z_unused =
           λ f g c d same values constant.
           file_is f c

@@ -13,8 +13,8 @@ use Rattle.reader.specs.Calls.{short}
 use Rattle.reader.proofs.Examples.{eight, eight_file}
 use Rattle.bounds.specs.Ranges.{range_of, those}
 use Rattle.bounds.specs.Curves.{largest_up_to}
-use Rattle.pvalues.specs.FromP.{gap, over, no_excess, excess, passes, passes_at, thresholds, every, z_of, region_pValues, bounded_region, family_from_p, cause20, cause21, cause22}
-use Rattle.pvalues.specs.Calls.{room_and_pValues, from_pInputs, from_pCauses, file_from_p}
+use Rattle.pvalues.specs.FromP.{gap, over, no_excess, excess, passes, passes_at, thresholds, every, z_of, region_p_values, bounded_region, family_from_p, cause20, cause21, cause22}
+use Rattle.pvalues.specs.Calls.{room_and_p_values, from_p_inputs, from_p_causes, file_from_p}
 
 -- the p_values of the peptides of the eight-peptide family
 abbrev pub eight_values : List ℕ
@@ -35,7 +35,7 @@ zs F ps deviationSquared = map (λ r. r.z) (family_from_p F ps deviationSquared)
 
 -- the number that is told of the eight-peptide family's file and an output of so many bytes
 abbrev pub told : List ℕ → ℕ → ℕ → ℕ
-told ps deviationSquared room = first_cause (from_pCauses eight_file ps deviationSquared room)
+told ps deviationSquared room = first_cause (from_p_causes eight_file ps deviationSquared room)
 
 pub record FromPExamples : Type 0 where
   pub constant_0 : zs eight eight_values 0 ≡ 0 ∷ 0 ∷ 0 ∷ 0 ∷ 0 ∷ []
@@ -73,7 +73,7 @@ pub record FromPExamples : Type 0 where
   pub none : told eight_values 100000000 54 ≡ 0
 
 pub from_p_examples : FromPExamples
-unfolding tabulate sum same_list some_below count_below number_at bytes_of region peptides_up_to length_at region_at family_of region_fields fields mark file_of before share_leaf region_within crossing region_inside cause1 cause2 cause3 cause4 cause5 cause6 cause7 cause8 cause9 cause10 misplaced first_cause header_causes family_causes file_causes short range_of those largest_up_to gap over no_excess excess passes passes_at thresholds every z_of region_pValues bounded_region family_from_p cause20 cause21 cause22 room_and_pValues from_pInputs from_pCauses file_from_p
+unfolding tabulate sum same_list some_below count_below number_at bytes_of region peptides_up_to length_at region_at family_of region_fields fields mark file_of before share_leaf region_within crossing region_inside cause1 cause2 cause3 cause4 cause5 cause6 cause7 cause8 cause9 cause10 misplaced first_cause header_causes family_causes file_causes short range_of those largest_up_to gap over no_excess excess passes passes_at thresholds every z_of region_p_values bounded_region family_from_p cause20 cause21 cause22 room_and_p_values from_p_inputs from_p_causes file_from_p
 from_p_examples =
     record {
       constant_0 = refl;

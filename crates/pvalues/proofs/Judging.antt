@@ -21,7 +21,7 @@ use Rattle.reader.proofs.Accepting.{well_formed_lem, accepted_header, few_region
 use Rattle.reader.proofs.ParentLaws.{enough_room, enough_first, parents_given}
 use Rattle.bounds.proofs.Basics.Members.{le_or_lt}
 use Rattle.pvalues.specs.FromP.{million, cause20, cause21, cause22}
-use Rattle.pvalues.specs.Calls.{room_and_pValues, from_pInputs, from_pCauses}
+use Rattle.pvalues.specs.Calls.{room_and_p_values, from_p_inputs, from_p_causes}
 use Rattle.pvalues.specs.Private.Lowering.{PValues}
 use Rattle.pvalues.specs.Private.Judging.{FromPJudged}
 
@@ -51,42 +51,42 @@ values_most ps h i =
 -- The room and the p_values.
 
 module _ (tooShort : Bool) (m : ℕ) (ps : List ℕ) where
-  pub room_16 : tooShort ≡ true → 16 ≡ first_cause (room_and_pValues tooShort m ps)
-  unfolding first_cause room_and_pValues
+  pub room_16 : tooShort ≡ true → 16 ≡ first_cause (room_and_p_values tooShort m ps)
+  unfolding first_cause room_and_p_values
   room_16 s = rw s
 
-  pub counted_20 : tooShort ≡ false → (length ps ≡ m → ⊥) → 20 ≡ first_cause (room_and_pValues tooShort m ps)
-  unfolding first_cause room_and_pValues cause20
+  pub counted_20 : tooShort ≡ false → (length ps ≡ m → ⊥) → 20 ≡ first_cause (room_and_p_values tooShort m ps)
+  unfolding first_cause room_and_p_values cause20
   counted_20 s k = rw (s, ne_eqb (length ps) m k)
 
-  pub judged_21 : tooShort ≡ false → length ps ≡ m → cond (cause21 ps) 21 0 ≡ first_cause (room_and_pValues tooShort m ps)
-  unfolding first_cause room_and_pValues cause20
+  pub judged_21 : tooShort ≡ false → length ps ≡ m → cond (cause21 ps) 21 0 ≡ first_cause (room_and_p_values tooShort m ps)
+  unfolding first_cause room_and_p_values cause20
   judged_21 s k = rw (s, eq-eqb (length ps) m k)
 
-  inputs_numbered : Numbered (room_and_pValues tooShort m ps)
-  unfolding room_and_pValues
+  inputs_numbered : Numbered (room_and_p_values tooShort m ps)
+  unfolding room_and_p_values
   inputs_numbered = (omega arith, (omega arith, (omega arith, tt)))
 
   -- with one cause more
   module _ (c : Cause) where
     abbrev inputs : List Cause
-    inputs = room_and_pValues tooShort m ps ++ (c ∷ [])
+    inputs = room_and_p_values tooShort m ps ++ (c ∷ [])
 
-    pub inputs_hold : (n : ℕ) → n ≡ first_cause (room_and_pValues tooShort m ps) → (n ≡ 0 → ⊥) → n ≡ first_cause inputs
-    inputs_hold n e some = e ∙ sym (join_holds (room_and_pValues tooShort m ps) (c ∷ []) (λ z. some (e ∙ z)))
+    pub inputs_hold : (n : ℕ) → n ≡ first_cause (room_and_p_values tooShort m ps) → (n ≡ 0 → ⊥) → n ≡ first_cause inputs
+    inputs_hold n e some = e ∙ sym (join_holds (room_and_p_values tooShort m ps) (c ∷ []) (λ z. some (e ∙ z)))
 
-    pub last_judged : first_cause (room_and_pValues tooShort m ps) ≡ 0 → cond c.holds c.number 0 ≡ first_cause inputs
+    pub last_judged : first_cause (room_and_p_values tooShort m ps) ≡ 0 → cond c.holds c.number 0 ≡ first_cause inputs
     unfolding first_cause
-    last_judged none = sym (join_clear (room_and_pValues tooShort m ps) (c ∷ []) inputs_numbered none)
+    last_judged none = sym (join_clear (room_and_p_values tooShort m ps) (c ∷ []) inputs_numbered none)
 
     -- where none holds
     pub inputs_none : tooShort ≡ false → cause20 m ps ≡ false → cause21 ps ≡ false → c.holds ≡ false → first_cause inputs ≡ 0
-    unfolding first_cause room_and_pValues
+    unfolding first_cause room_and_p_values
     inputs_none s k l h = rw (s, k, l, h)
 
     pub inputs_known : 1 ≤ c.number → first_cause inputs ≡ 0
         → (tooShort ≡ false) × ((length ps ≡ m) × (((i : ℕ) → get_or ps i 0 ≤ million) × (c.holds ≡ false)))
-    unfolding room_and_pValues cause20
+    unfolding room_and_p_values cause20
     inputs_known some h =
         let a = head_clear _ _ (omega arith) h in
         let b = head_clear _ _ (omega arith) a.1 in
@@ -97,22 +97,22 @@ module _ (tooShort : Bool) (m : ℕ) (ps : List ℕ) where
 -- Bounds from p-values: the causes in the order in which they are tried.
 
 module _ (file ps : List ℕ) (deviationSquared room : ℕ) where
-  first_file : (first_cause (file_causes file) ≡ 0 → ⊥) → first_cause (from_pCauses file ps deviationSquared room) ≡ first_cause (file_causes file)
-  unfolding from_pCauses
-  first_file h = join_holds (file_causes file) (from_pInputs file ps deviationSquared room) h
+  first_file : (first_cause (file_causes file) ≡ 0 → ⊥) → first_cause (from_p_causes file ps deviationSquared room) ≡ first_cause (file_causes file)
+  unfolding from_p_causes
+  first_file h = join_holds (file_causes file) (from_p_inputs file ps deviationSquared room) h
 
-  pub first_input : Accepted file → first_cause (from_pCauses file ps deviationSquared room) ≡ first_cause (from_pInputs file ps deviationSquared room)
-  unfolding from_pCauses
-  first_input h = join_clear (file_causes file) (from_pInputs file ps deviationSquared room) (file_numbered file) h
+  pub first_input : Accepted file → first_cause (from_p_causes file ps deviationSquared room) ≡ first_cause (from_p_inputs file ps deviationSquared room)
+  unfolding from_p_causes
+  first_input h = join_clear (file_causes file) (from_p_inputs file ps deviationSquared room) (file_numbered file) h
 
   -- no cause holds
   pub none_holds : Accepted file → length file ≤ room → cause20 (family_of file).peptides ps ≡ false → cause21 ps ≡ false → cause22 deviationSquared ≡ false
-      → first_cause (from_pCauses file ps deviationSquared room) ≡ 0
-  unfolding from_pInputs short
+      → first_cause (from_p_causes file ps deviationSquared room) ≡ 0
+  unfolding from_p_inputs short
   none_holds accepted h k l m = first_input accepted ∙ inputs_none _ _ ps _ (le-ltb room (length file) h) k l m
 
-  known : first_cause (from_pInputs file ps deviationSquared room) ≡ 0 → PValues (family_of file) ps deviationSquared × (length file ≤ room)
-  unfolding from_pInputs short cause22
+  known : first_cause (from_p_inputs file ps deviationSquared room) ≡ 0 → PValues (family_of file) ps deviationSquared × (length file ≤ room)
+  unfolding from_p_inputs short cause22
   known h =
       let k = inputs_known _ _ ps _ (omega arith) h in
       (record { values = k.1.0; most = k.1.1.0; constant = ltb-false 100000000 deviationSquared k.1.1.1 }, ltb-false room (length file) k.0)
@@ -122,7 +122,7 @@ module _ (file ps : List ℕ) (deviationSquared room : ℕ) where
 
   -- an accepted file, whose parents stand in the list that `parents` leaves
   pub judged_accepted : IsBytes file → Accepted file → (out P : List ℕ) → 8191 ≤ length out → length P ≡ length out → ParentsWrites file out P
-      → (n : ℕ) → n ≡ first_cause (from_pInputs file ps deviationSquared room) → FromPJudged file ps deviationSquared room P n
+      → (n : ℕ) → n ≡ first_cause (from_p_inputs file ps deviationSquared room) → FromPJudged file ps deviationSquared room P n
   judged_accepted bytes accepted out P enough same writes n e =
       record {
         first = e ∙ sym (first_input accepted);

@@ -17,7 +17,7 @@ use Rattle.reader.proofs.Files.{length_bytes, region_fields_length, file_length}
 use Rattle.reader.proofs.NumberRows.{bytes_join, numbers_none, numbers_join, fields_join}
 use Rattle.bounds.proofs.Theory.Family.{map_tabulate}
 use Rattle.pvalues.specs.FromP.{bounded_region, family_from_p}
-use Rattle.pvalues.specs.Calls.{from_pCauses, file_from_p, FromPWrites}
+use Rattle.pvalues.specs.Calls.{from_p_causes, file_from_p, FromPWrites}
 use Rattle.pvalues.specs.Private.Writing.{with_bound, with_bounds}
 use Rattle.pvalues.specs.Private.Climbing.{BoundsFound}
 
@@ -122,13 +122,13 @@ module _ (F : Family) (Z : List ℕ) where
       ∙ sym (map_tabulate no_region (bounded_region F ps deviationSquared) F.regions))
 
 -- the file that is promised
-pub writes_from_p : (file ps : List ℕ) (deviationSquared : ℕ) (out new Z : List ℕ) → first_cause (from_pCauses file ps deviationSquared (length out)) ≡ 0 → BoundsFound (family_of file) ps deviationSquared Z
+pub writes_from_p : (file ps : List ℕ) (deviationSquared : ℕ) (out new Z : List ℕ) → first_cause (from_p_causes file ps deviationSquared (length out)) ≡ 0 → BoundsFound (family_of file) ps deviationSquared Z
     → new ≡ at_start (file_of (with_bounds (family_of file) Z)) out → FromPWrites file ps deviationSquared out new
 unfolding file_from_p
 writes_from_p file ps deviationSquared out new Z none found e =
     e
     ∙ ap (λ (G : Family). at_start (file_of G) out) (bounds_family (family_of file) Z ps deviationSquared found)
-    ∙ sym (writes (from_pCauses file ps deviationSquared (length out)) none (file_of (family_from_p (family_of file) ps deviationSquared)) out)
+    ∙ sym (writes (from_p_causes file ps deviationSquared (length out)) none (file_of (family_from_p (family_of file) ps deviationSquared)) out)
 
 -- it is as long as the given one
 pub from_p_length : (file ps : List ℕ) (deviationSquared : ℕ) → Accepted file → length (file_from_p file ps deviationSquared) ≡ length file

@@ -6,22 +6,22 @@ use Rattle.reader.specs.Calls.{written, short}
 use Rattle.pvalues.specs.FromP.{family_from_p, cause20, cause21, cause22}
 
 -- what `bounds_from_p` and `hybrid` try after the family, and the path if there is one: an output that is too short, then the p_values
-unfoldable pub room_and_pValues : Bool → ℕ → List ℕ → List Cause
-room_and_pValues tooShort m ps =
+unfoldable pub room_and_p_values : Bool → ℕ → List ℕ → List Cause
+room_and_p_values tooShort m ps =
     record { number = 16; holds = tooShort }
     ∷ record { number = 20; holds = cause20 m ps }
     ∷ record { number = 21; holds = cause21 ps }
     ∷ []
 
 -- what is tried after the file: an output under the family's length, the p_values, then the constant
-unfoldable pub from_pInputs : List ℕ → List ℕ → ℕ → ℕ → List Cause
-from_pInputs file ps deviationSquared room =
-    room_and_pValues (short (length file) room) (family_of file).peptides ps
+unfoldable pub from_p_inputs : List ℕ → List ℕ → ℕ → ℕ → List Cause
+from_p_inputs file ps deviationSquared room =
+    room_and_p_values (short (length file) room) (family_of file).peptides ps
     ++ (record { number = 22; holds = cause22 deviationSquared } ∷ [])
 
 -- the causes, in the order in which they are tried; room is the number of bytes of the output
-unfoldable pub from_pCauses : List ℕ → List ℕ → ℕ → ℕ → List Cause
-from_pCauses file ps deviationSquared room = file_causes file ++ from_pInputs file ps deviationSquared room
+unfoldable pub from_p_causes : List ℕ → List ℕ → ℕ → ℕ → List Cause
+from_p_causes file ps deviationSquared room = file_causes file ++ from_p_inputs file ps deviationSquared room
 
 -- the file of the family with the z from the p_values
 unfoldable pub file_from_p : List ℕ → List ℕ → ℕ → List ℕ
@@ -32,9 +32,9 @@ file_from_p file ps deviationSquared = file_of (family_from_p (family_of file) p
 
 -- the answer r of `bounds_from_p`: no value comes with it, so it is the number alone
 abbrev pub FromPAnswers : List ℕ → List ℕ → ℕ → List ℕ → ℕ → Type 0
-FromPAnswers file ps deviationSquared out r = r ≡ first_cause (from_pCauses file ps deviationSquared (length out))
+FromPAnswers file ps deviationSquared out r = r ≡ first_cause (from_p_causes file ps deviationSquared (length out))
 
 -- the file of `bounds_from_p`
 abbrev pub FromPWrites : List ℕ → List ℕ → ℕ → List ℕ → List ℕ → Type 0
 FromPWrites file ps deviationSquared out new =
-    new ≡ written (from_pCauses file ps deviationSquared (length out)) (file_from_p file ps deviationSquared) out
+    new ≡ written (from_p_causes file ps deviationSquared (length out)) (file_from_p file ps deviationSquared) out

@@ -59,13 +59,13 @@ pub record IsZ (deviationSquared : ℕ) (ps : List ℕ) (z : ℕ) : Type 0 where
   pub largest : (v : ℕ) → v ≤ length ps → ((t : ℕ) → In t (thresholds ps) → passes_at deviationSquared ps t v ≡ true) → v ≤ z
 
 -- the p_values of a region's peptides; the first in the list is that of peptide 1
-unfoldable pub region_pValues : Family → List ℕ → Region → List ℕ
-region_pValues F ps r = take ((range_of F r).high - (range_of F r).low) (drop (range_of F r).low ps)
+unfoldable pub region_p_values : Family → List ℕ → Region → List ℕ
+region_p_values F ps r = take ((range_of F r).high - (range_of F r).low) (drop (range_of F r).low ps)
 
 -- a region with its z from the p_values; its given z is not used
 unfoldable pub bounded_region : Family → List ℕ → ℕ → Region → Region
 bounded_region F ps deviationSquared r =
-    record { first = r.first; last = r.last; z = z_of deviationSquared (region_pValues F ps r) }
+    record { first = r.first; last = r.last; z = z_of deviationSquared (region_p_values F ps r) }
 
 -- the family with the given leaves and ranges, and the z from the p_values
 unfoldable pub family_from_p : Family → List ℕ → ℕ → Family

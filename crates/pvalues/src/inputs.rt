@@ -4,7 +4,7 @@ ghost use Rattle.reader.specs.Family.{family_of};
 ghost use Rattle.reader.specs.Causes.{first_cause};
 ghost use Rattle.reader.specs.Calls.{short};
 ghost use Rattle.pvalues.specs.FromP.{cause21};
-ghost use Rattle.pvalues.specs.Calls.{room_and_pValues, from_pInputs};
+ghost use Rattle.pvalues.specs.Calls.{room_and_p_values, from_p_inputs};
 ghost use Rattle.pvalues.specs.Private.Judging.{FromPJudged};
 
 use reader::Checked;
@@ -31,7 +31,7 @@ fn bad_p_values(p_values: &[u32]) -> bool
 
 // The first of the causes 16, 20 and 21 that holds, or 0; the output has room for so many elements, and so many are needed.
 pub fn room_and_p_cause(file: &[u8], p_values: &[u32], needed: usize, room: usize) -> u16
-    ensures { result ≡ first_cause (room_and_pValues (short needed room) (family_of file.now).peptides p_values.now) }
+    ensures { result ≡ first_cause (room_and_p_values (short needed room) (family_of file.now).peptides p_values.now) }
 {
     if room < needed {
         return 16;
@@ -44,7 +44,7 @@ pub fn room_and_p_cause(file: &[u8], p_values: &[u32], needed: usize, room: usiz
 
 // The first cause of `bounds_from_p` after those of the file that holds, with an output of so many bytes, or 0.
 fn input_cause(file: &[u8], p_values: &[u32], deviation_squared: u32, room: usize) -> u16
-    ensures { result ≡ first_cause (from_pInputs file.now p_values.now deviation_squared room) }
+    ensures { result ≡ first_cause (from_p_inputs file.now p_values.now deviation_squared room) }
 {
     let cause = room_and_p_cause(file, p_values, file.len(), room);
     if cause != 0 {

@@ -19,8 +19,8 @@ use writing::write_family;
 // The constant is the square of the source's deviation term: half the natural logarithm of 1/λ for a risk level λ, in millionths, rounded
 // up. The z of the given file are not used. A declined call leaves the output unchanged.
 pub fn bounds_from_p(file: &[u8], p_values: &[u32], deviation_squared: u32, out: &mut [u8]) -> u16
-    ensures from_panswers { FromPAnswers file.now p_values.now deviation_squared out.old result }
-    ensures from_pwrites { FromPWrites file.now p_values.now deviation_squared out.old out.new }
+    ensures from_p_answers { FromPAnswers file.now p_values.now deviation_squared out.old result }
+    ensures from_p_writes { FromPWrites file.now p_values.now deviation_squared out.old out.new }
 {
     let mut parents = [0u16; 8191];
     let cause = from_p_cause(file, p_values, deviation_squared, out.len(), &mut parents);

@@ -22,10 +22,10 @@ use Rattle.bounds.proofs.Basics.Nesting.{has_facts}
 
 module _ {A : Type 0} (t : A → Bool) where
   pub some_those : (x : A) (L : List A) → In x L → t x ≡ true → 0 < length (those t L)
-  member [] j = elim j [ ]
   some_those x L i h = member (those t L) (in_those t L x i h)
     where
       member : (M : List A) → In x M → 0 < length M
+      member [] j = elim j [ ]
       member (y ∷ M) j = omega arith
 
   pub those_some : (L : List A) → 0 < length (those t L) → Found t L

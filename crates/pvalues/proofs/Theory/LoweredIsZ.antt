@@ -23,7 +23,7 @@ use Rattle.bounds.specs.Curves.{largest_up_to}
 use Rattle.bounds.proofs.Basics.Members.{test, both_ways, le_or_lt, and_l, and_r, and_both, bit, in_those, those_same}
 use Rattle.bounds.proofs.Walking.Steps.{largest_same}
 use Rattle.bounds.proofs.Theory.Family.{leaf_most}
-use Rattle.pvalues.specs.FromP.{million, gap, over, passes, passes_at, thresholds, every, z_of, region_pValues}
+use Rattle.pvalues.specs.FromP.{million, gap, over, passes, passes_at, thresholds, every, z_of, region_p_values}
 use Rattle.pvalues.specs.Private.Ordering.{p_value, InOrder}
 use Rattle.pvalues.specs.Private.Lowering.{lower_along, has_at, size_at, z_at, PValues}
 use Rattle.pvalues.proofs.Theory.Passing.{passes_zero, passes_top, passes_few, passes_gap, passes_over, passes_down}
@@ -179,12 +179,12 @@ module _ {F : Family} (w : WellFormed F) (ps : List ℕ) (values : length ps ≡
   unfolding range_of
   ends = omega (arith, leaf_most w (region F k).last (w.ordered.last_leaf k known))
 
-  pub region_counted : (f : ℕ → Bool) → length (those f (region_pValues F ps (region F k))) ≡ count_below (length ps) (λ i. has_at F k i && f (p_value ps i))
-  unfolding region_pValues
+  pub region_counted : (f : ℕ → Bool) → length (those f (region_p_values F ps (region F k))) ≡ count_below (length ps) (λ i. has_at F k i && f (p_value ps i))
+  unfolding region_p_values
   region_counted f = part_counted (range_at F k) f ps ends
 
-  pub region_size : length (region_pValues F ps (region F k)) ≡ size_at F k
-  unfolding region_pValues
+  pub region_size : length (region_p_values F ps (region F k)) ≡ size_at F k
+  unfolding region_p_values
   region_size =
       let r = range_at F k in
       omega (arith, length-take (r.high - r.low) (drop r.low ps), length-drop r.low ps, ends)
@@ -196,4 +196,4 @@ pub region_z : {F : Family} {ps : List ℕ} {C : ℕ} {order : List ℕ} → Wel
     → lower_along C ps (has_at F k) (size_at F k) (size_at F k) order ≡ z_at F ps C k
 region_z {F} {ps} {C} {order} w p o k h =
     rw (region_size w ps p.values k h) at
-    (lowered_is_z C ps order (has_at F k) (region_pValues F ps (region F k)) o (region_counted w ps p.values k h))
+    (lowered_is_z C ps order (has_at F k) (region_p_values F ps (region F k)) o (region_counted w ps p.values k h))

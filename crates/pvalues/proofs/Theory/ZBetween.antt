@@ -21,7 +21,7 @@ use Rattle.sorting.proofs.Those.{those_all}
 use Rattle.bounds.specs.Ranges.{those, range_of, range_at}
 use Rattle.bounds.proofs.Basics.Members.{and_l, and_r, and_both, bit_mono}
 use Rattle.bounds.proofs.Basics.Nesting.{has_facts, has_holds}
-use Rattle.pvalues.specs.FromP.{million, gap, over, excess, passes, passes_at, z_of, region_pValues}
+use Rattle.pvalues.specs.FromP.{million, gap, over, excess, passes, passes_at, z_of, region_p_values}
 use Rattle.pvalues.specs.Private.Ordering.{p_value}
 use Rattle.pvalues.specs.Private.Lowering.{has_at, z_at}
 use Rattle.pvalues.proofs.Theory.Passing.{passes_is, passes_over}
@@ -64,7 +64,7 @@ within_has {F} w j k l inside i h =
 module _ {F : Family} (w : WellFormed F) (ps qs : List ℕ) (fewer : length ps ≡ F.peptides) (more : length qs ≡ F.peptides) (raised : (i : ℕ) → p_value ps i ≤ p_value qs i)
     (j k : ℕ) (l : j < region_count F) (u : k < region_count F) (inside : (i : ℕ) → has_at F j i ≡ true → has_at F k i ≡ true) where
   -- a test that a larger number passes too
-  counted : (f : ℕ → Bool) → ((x y : ℕ) → x ≤ y → f x ≡ true → f y ≡ true) → length (those f (region_pValues F ps (region F j))) ≤ length (those f (region_pValues F qs (region F k)))
+  counted : (f : ℕ → Bool) → ((x y : ℕ) → x ≤ y → f x ≡ true → f y ≡ true) → length (those f (region_p_values F ps (region F j))) ≤ length (those f (region_p_values F qs (region F k)))
   counted f up =
       let same : length ps ≡ length qs = omega arith in
       omega (
@@ -78,6 +78,6 @@ module _ {F : Family} (w : WellFormed F) (ps qs : List ℕ) (fewer : length ps �
   pub region_no_smaller : (C : ℕ) → z_at F ps C j ≤ z_at F qs C k
   unfolding over
   region_no_smaller C =
-      z_over C (region_pValues F ps (region F j)) (region_pValues F qs (region F k))
-      (rw (those_all (λ p. true) (region_pValues F ps (region F j)) (λ p i. refl), those_all (λ p. true) (region_pValues F qs (region F k)) (λ p i. refl)) at (counted (λ p. true) (λ x y l e. refl)))
+      z_over C (region_p_values F ps (region F j)) (region_p_values F qs (region F k))
+      (rw (those_all (λ p. true) (region_p_values F ps (region F j)) (λ p i. refl), those_all (λ p. true) (region_p_values F qs (region F k)) (λ p i. refl)) at (counted (λ p. true) (λ x y l e. refl)))
       (λ t. counted (λ p. ltb t p) (λ x y l e. lt-ltb t y (omega (arith, ltb-true t x e))))

@@ -12,7 +12,7 @@ use Prim.Native.Nat.{ℕ, ◌≤◌, ◌<◌}
 use mathlib.Core.Bool.{Bool, true}
 use mathlib.Core.List.{List, [], ◌∷◌}
 use mathlib.Core.Logic.{inl, inr, ⊎_elim}
-use mathlib.Core.Path.{◌≡◌, refl, ap}
+use mathlib.Core.Path.{◌≡◌, refl, sym, ap, subst}
 use native.Mathlib.Omega.{arith}
 use lib.ListN.{length}
 use lib.Dec.{eqb, ltb}
@@ -75,7 +75,7 @@ module _ (C : ℕ) (ps : List ℕ) where
       in_thresholds : In s (thresholds ps)
       in_thresholds =
           let f = some_found (λ q. eqb s q) (thresholds ps) (largest_passes t listed (is_listed 0 (inl refl))) in
-          rw (eqb-true s f.it f.passes) f.member
+          subst (λ (x : ℕ). In x (thresholds ps)) (sym (eqb-true s f.it f.passes)) f.member
 
       same : t < million → over s ps ≡ over t ps
       same l = ap length (those_same (λ p. ltb s p) (λ p. ltb t p) ps alike)

@@ -9,7 +9,7 @@ use Rattle.pvalues.proofs.bounds_from_p.Goals as goal
 
 pub returns-then-cause-ne0 : goal.returns-then-cause-ne0
 returns-then-cause-ne0 c =
-    let e = c.from_p_cause-cause.ensures.first in record { from_panswers = e; from_pwrites = sym (leaves_unchanged _ (λ z. c.if-cause-ne0.true (e ∙ z)) _ _) }
+    let e = c.from_p_cause-cause.ensures.first in record { from_p_answers = e; from_p_writes = sym (leaves_unchanged _ (λ z. c.if-cause-ne0.true (e ∙ z)) _ _) }
 
 pub find_bounds-requires : goal.find_bounds-requires
 find_bounds-requires c =
@@ -21,4 +21,4 @@ write_family-requires c =
 
 pub returns : goal.returns
 returns c =
-    let none = sym c.from_p_cause-cause.ensures.first ∙ c.if-cause-ne0.false in record { from_panswers = sym none; from_pwrites = writes_from_p _ _ _ _ _ _ none c.find_bounds.ensures c.write_family.ensures }
+    let none = sym c.from_p_cause-cause.ensures.first ∙ c.if-cause-ne0.false in record { from_p_answers = sym none; from_p_writes = writes_from_p _ _ _ _ _ _ none c.find_bounds.ensures c.write_family.ensures }

@@ -3,7 +3,7 @@ use Rattle.std.specs.Prelude.{ℕ, suc, ◌-◌, ◌≤◌, Bool, cond, List, []
 use Rattle.reader.specs.Family.{Family, region}
 use Rattle.bounds.specs.Ranges.{range_at, has}
 use Rattle.bounds.specs.Curves.{largest_up_to}
-use Rattle.pvalues.specs.FromP.{million, gap, passes, z_of, region_pValues}
+use Rattle.pvalues.specs.FromP.{million, gap, passes, z_of, region_p_values}
 use Rattle.pvalues.specs.Private.Ordering.{p_value}
 
 -- One step at a peptide with p-value p, in a region whose z is at most z so far and which has so many p_values left, this one
@@ -28,7 +28,7 @@ size_at F k = (range_at F k).high - (range_at F k).low
 
 -- the z of the k-th region
 abbrev pub z_at : Family → List ℕ → ℕ → ℕ → ℕ
-z_at F ps deviationSquared k = z_of deviationSquared (region_pValues F ps (region F k))
+z_at F ps deviationSquared k = z_of deviationSquared (region_p_values F ps (region F k))
 
 -- the p_values and the constant are as they should be
 pub record PValues (F : Family) (ps : List ℕ) (deviationSquared : ℕ) : Type 0 where

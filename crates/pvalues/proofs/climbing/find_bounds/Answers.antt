@@ -1,26 +1,26 @@
-use Prim.Native.Nat.{ℕ, suc, ◌-◌, ◌<◌, ◌≤◌}
+use Prim.Native.Nat.{ℕ, suc, ◌<◌, ◌≤◌}
 use native.Mathlib.Omega.{arith}
+use mathlib.Core.List.{List}
 use mathlib.Core.Path.{◌≡◌, refl, ◌∙◌}
-use lib.ListN.{length, get_or, length-replicate}
+use lib.ListN.{length, get_or, take, length-replicate}
 use lib.Seq.{length-take-le}
-use Rattle.reader.specs.Family.{family_of, leaf_of}
+use Rattle.reader.specs.Family.{Family, family_of, leaf_of}
+use Rattle.reader.specs.WellFormed.{WellFormed}
 use Rattle.reader.proofs.Lists.{zeros}
+use Rattle.pvalues.specs.Private.Ordering.{InOrder}
+use Rattle.pvalues.specs.Private.Lowering.{PValues}
 use Rattle.pvalues.proofs.Finding.Climbs.{place_within, coming_starts, coming_more, coming_ends, climbable}
 use Rattle.pvalues.proofs.climbing.find_bounds.Goals as goal
-use Rattle.pvalues.proofs.climbing.find_bounds.Goals.{At-loop-i, In-loop-i}
+use Rattle.pvalues.proofs.climbing.find_bounds.Goals.{At-loop-i}
 
 room : (c : At-loop-i) → length c.args.p_values.now ≤ length c.order_by_p.new.order
 room c = omega (arith, c.loop-i.invariant.3, c.requires.pvalues.values, c.requires.parented.well.peptides_most)
 
 -- the peptide that is next in the order is one of the m
-within : (c : In-loop-i)
-    → (get_or c.order_by_p.new.order c.loop-i.i 0 < (family_of c.args.file.now).peptides)
-    × ((family_of c.args.file.now).peptides ≤ 4096)
-    × (length c.args.p_values.now ≡ (family_of c.args.file.now).peptides)
-within c =
-    let w = c.requires.parented.well in
-    let known = c.requires.pvalues in
-    (place_within w known c.order_by_p.new.order c.loop-i.invariant.5 ((omega (arith, c.loop-i.invariant.3, c.requires.pvalues.values, c.requires.parented.well.peptides_most))) c.loop-i.i c.loop-i-test.true, w.peptides_most, known.values)
+within : {F : Family} {ps : List ℕ} {d : ℕ} → WellFormed F → PValues F ps d → (order : List ℕ) → InOrder ps (take (length ps) order) → length order ≡ 4096 → (i : ℕ) → i < length ps
+    → (get_or order i 0 < F.peptides) × (F.peptides ≤ 4096) × (length ps ≡ F.peptides)
+within w known order ordered room i h =
+    (place_within w known order ordered (omega (arith, room, known.values, w.peptides_most)) i h, w.peptides_most, known.values)
 
 pub order_by_p-requires : goal.order_by_p-requires
 order_by_p-requires c =
@@ -46,23 +46,23 @@ loop-i-init c =
 
 pub overflow_cast-place : goal.overflow_cast-place
 overflow_cast-place c =
-    omega (arith, within (goal.at.overflow_cast-place c).In-loop-i)
+    omega (arith, within c.requires.parented.well c.requires.pvalues c.order_by_p.new.order c.loop-i.invariant.5 c.loop-i.invariant.3 c.loop-i.i c.loop-i-test.true)
 
 pub offset_bounds-innermost-place : goal.offset_bounds-innermost-place
 offset_bounds-innermost-place c =
-    omega (arith, within (goal.at.offset_bounds-innermost-place c).In-loop-i)
+    omega (arith, within c.requires.parented.well c.requires.pvalues c.order_by_p.new.order c.loop-i.invariant.5 c.loop-i.invariant.3 c.loop-i.i c.loop-i-test.true)
 
 pub bounds-innermost-place : goal.bounds-innermost-place
 bounds-innermost-place c =
-    omega (arith, within (goal.at.bounds-innermost-place c).In-loop-i)
+    omega (arith, within c.requires.parented.well c.requires.pvalues c.order_by_p.new.order c.loop-i.invariant.5 c.loop-i.invariant.3 c.loop-i.i c.loop-i-test.true)
 
 pub offset_bounds-p_values-place : goal.offset_bounds-p_values-place
 offset_bounds-p_values-place c =
-    omega (arith, within (goal.at.offset_bounds-p_values-place c).In-loop-i)
+    omega (arith, within c.requires.parented.well c.requires.pvalues c.order_by_p.new.order c.loop-i.invariant.5 c.loop-i.invariant.3 c.loop-i.i c.loop-i-test.true)
 
 pub bounds-p_values-place : goal.bounds-p_values-place
 bounds-p_values-place c =
-    omega (arith, within (goal.at.bounds-p_values-place c).In-loop-i)
+    omega (arith, within c.requires.parented.well c.requires.pvalues c.order_by_p.new.order c.loop-i.invariant.5 c.loop-i.invariant.3 c.loop-i.i c.loop-i-test.true)
 
 pub lower_regions-requires : goal.lower_regions-requires
 lower_regions-requires c =
@@ -87,7 +87,7 @@ loop-i-preserved c =
       inv.5,
       inv.6,
       coming_more start.parented.well start.pvalues order inv.5 (room (goal.at.loop-i-preserved c).At-loop-i) i c.loop-i-test.true _ _ _ _ inv.7
-          (c.lower_regions.ensures (family_of c.args.file.now) (leaf_of (family_of c.args.file.now) (suc (get_or order i 0))) start.parented.nested (inv.6 (get_or order i 0) (within (goal.at.loop-i-preserved c).In-loop-i).0)),
+          (c.lower_regions.ensures (family_of c.args.file.now) (leaf_of (family_of c.args.file.now) (suc (get_or order i 0))) start.parented.nested (inv.6 (get_or order i 0) (within c.requires.parented.well c.requires.pvalues c.order_by_p.new.order c.loop-i.invariant.5 c.loop-i.invariant.3 c.loop-i.i c.loop-i-test.true).0)),
     )
 
 pub returns : goal.returns

@@ -1,5 +1,5 @@
 -- What lies below the number is as it was; whatever the leaf, the rest of the chain holds it.
-use Prim.Native.Nat.{ℕ, ◌-◌, ◌≤◌, ◌<◌}
+use Prim.Native.Nat.{ℕ, ◌≤◌, ◌<◌}
 use mathlib.Core.Path.{◌≡◌}
 use lib.ListN.{length, get_or}
 use Rattle.reader.specs.Family.{Family}

@@ -1,23 +1,20 @@
 -- Causes 16, 20 and 21 are tried in this order.
--- there is room, and there are m p_values
+use Prim.Native.Nat.{ℕ, ◌≤◌}
 use mathlib.Core.Bool.{false, cond}
 use mathlib.Core.Path.{◌≡◌, sym, ◌∙◌}
-use lib.ListN.{length}
 use borrow.Author.Tests.{lt-ltb, le-ltb}
 use Rattle.reader.specs.Family.{family_of}
 use Rattle.reader.specs.Causes.{first_cause}
 use Rattle.reader.specs.Calls.{short}
-use Rattle.pvalues.specs.Calls.{room_and_pValues}
+use Rattle.pvalues.specs.Calls.{room_and_p_values}
 use Rattle.pvalues.proofs.Judging.{room_16, counted_20, judged_21}
 use Rattle.pvalues.proofs.inputs.room_and_p_cause.Goals as goal
-use Rattle.pvalues.proofs.inputs.room_and_p_cause.Goals.{After-bad_p_values, Else-p_values-peptide_count, Else-room-needed}
+use Rattle.pvalues.proofs.inputs.room_and_p_cause.Goals.{After-bad_p_values}
 
-enough : (c : Else-room-needed) → short c.args.needed c.args.room ≡ false
+-- there is room
+enough : (needed room : ℕ) → needed ≤ room → short needed room ≡ false
 unfolding short
-enough c = le-ltb _ _ c.if-room-needed.false
-
-counted : (c : Else-p_values-peptide_count) → length c.args.p_values.now ≡ (family_of c.args.file.now).peptides
-counted c = c.if-p_values-peptide_count.false ∙ c.peptide_count.ensures
+enough needed room h = le-ltb _ _ h
 
 pub returns-then-room-needed : goal.returns-then-room-needed
 unfolding short
@@ -26,12 +23,12 @@ returns-then-room-needed c =
 
 pub returns-then-p_values-peptide_count : goal.returns-then-p_values-peptide_count
 returns-then-p_values-peptide_count c =
-    counted_20 _ _ _ (enough (goal.at.returns-then-p_values-peptide_count c).Else-room-needed) (λ e. c.if-p_values-peptide_count.true (e ∙ sym c.peptide_count.ensures))
+    counted_20 _ _ _ (enough _ _ c.if-room-needed.false) (λ e. c.if-p_values-peptide_count.true (e ∙ sym c.peptide_count.ensures))
 
 judged : (c : After-bad_p_values)
     → cond c.bad_p_values.result 21 0
-    ≡ first_cause (room_and_pValues (short c.args.needed c.args.room) (family_of c.args.file.now).peptides c.args.p_values.now)
-judged c = rw c.bad_p_values.ensures (judged_21 _ _ _ (enough c.before.before.before) ((c.if-p_values-peptide_count.false ∙ c.peptide_count.ensures)))
+    ≡ first_cause (room_and_p_values (short c.args.needed c.args.room) (family_of c.args.file.now).peptides c.args.p_values.now)
+judged c = rw c.bad_p_values.ensures (judged_21 _ _ _ (enough _ _ c.if-room-needed.false) (c.if-p_values-peptide_count.false ∙ c.peptide_count.ensures))
 
 pub returns-then-bad_p_values : goal.returns-then-bad_p_values
 returns-then-bad_p_values c =

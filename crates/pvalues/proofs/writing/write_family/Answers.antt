@@ -1,27 +1,24 @@
-use Prim.Native.Nat.{ℕ, ◌+◌, ◌*◌, ◌-◌}
+use Prim.Native.Nat.{ℕ, ◌+◌, ◌*◌}
 use native.Mathlib.Omega.{arith}
 use mathlib.Core.List.{List}
 use mathlib.Core.Path.{◌≡◌, refl, sym, ap, ◌∙◌}
 use lib.ListN.{length}
-use Rattle.reader.specs.Bytes.{IsBytes, with_numbers}
+use Rattle.reader.specs.Bytes.{with_numbers}
 use Rattle.reader.specs.Family.{family_of, leaves, region_count, total_length}
+use Rattle.reader.specs.Causes.{Accepted}
 use Rattle.reader.proofs.Parsed.{held_first, held_last}
 use Rattle.reader.proofs.Accepting.{accepted_header, whole_length}
 use Rattle.reader.proofs.Files.{accepted_written_back}
 use Rattle.pvalues.proofs.NewFile.{first_fields, none_put, region_put, all_put}
 use Rattle.pvalues.proofs.writing.write_family.Goals as goal
-use Rattle.pvalues.proofs.writing.write_family.Goals.{After-shared_slice_known-1}
 
 -- the file is as long as its counts say
-whole : (c : After-shared_slice_known-1) → length c.args.file.now ≡ total_length (leaves (family_of c.args.file.now)) (region_count (family_of c.args.file.now))
-whole c = whole_length _ (accepted_header _ c.requires.accepted)
-
-bytes : (c : After-shared_slice_known-1) → IsBytes c.args.file.now
-bytes c i = omega (arith, c.shared_slice_known-1.given i)
+whole : (file : List ℕ) → Accepted file → length file ≡ total_length (leaves (family_of file)) (region_count (family_of file))
+whole file a = whole_length _ (accepted_header _ a)
 
 pub copy_front-requires : goal.copy_front-requires
 copy_front-requires c =
-    record { n_in_bounds = omega (arith, whole (goal.at.copy_front-requires c).After-shared_slice_known-1, c.leaf_count.ensures); n_in_bounds_2 = omega (arith, whole (goal.at.copy_front-requires c).After-shared_slice_known-1, c.leaf_count.ensures, c.requires.file_in_bounds_2) }
+    record { n_in_bounds = omega (arith, whole c.args.file.now c.requires.accepted, c.leaf_count.ensures); n_in_bounds_2 = omega (arith, whole c.args.file.now c.requires.accepted, c.leaf_count.ensures, c.requires.file_in_bounds_2) }
 
 pub loop-k-init : goal.loop-k-init
 loop-k-init c =
@@ -33,7 +30,7 @@ bounds-bounds-k c =
 
 pub put_region-requires : goal.put_region-requires
 put_region-requires c =
-    omega (arith, whole (goal.at.put_region-requires c).After-shared_slice_known-1, c.loop-k.invariant.1, c.loop-k.invariant.2, c.loop-k.invariant.3, c.loop-k-test.true, c.requires.file_in_bounds_2, c.copy_front.auto.to)
+    omega (arith, whole c.args.file.now c.requires.accepted, c.loop-k.invariant.1, c.loop-k.invariant.2, c.loop-k.invariant.3, c.loop-k-test.true, c.requires.file_in_bounds_2, c.copy_front.auto.to)
 
 pub loop-k-preserved : goal.loop-k-preserved
 loop-k-preserved c =
@@ -52,5 +49,5 @@ returns c =
     let s = c.args.file.now in
     let inv = c.loop-k.invariant in
     all_put (family_of s) c.args.bounds.now s c.args.out.now _ _ c.loop-k.k
-    (sym (accepted_written_back s (bytes (goal.at.returns c).After-shared_slice_known-1) c.requires.accepted)) c.requires.file_in_bounds_2 inv.2 (omega (arith, inv.1))
+    (sym (accepted_written_back s (λ i. omega (arith, c.type_inv.file i)) c.requires.accepted)) c.requires.file_in_bounds_2 inv.2 (omega (arith, inv.1))
     (inv.4 ∙ ap (λ (l : List ℕ). with_numbers l (16 + 2 * c.leaf_count.result) (first_fields (family_of s) c.args.bounds.now c.loop-k.k)) c.copy_front.ensures)
