@@ -1,5 +1,5 @@
 """Tests of ./run: the table, what it says of a refusal, and that it never shows a stale program's text.
-Run: python3 tools/test_run.py, once `rt check curve` has built the program."""
+Run: python3 tools/test_run.py, once `rt run` in crates/curve has built the program."""
 
 import os
 import pathlib
@@ -50,8 +50,8 @@ class Shown(unittest.TestCase):
 
     @classmethod
     def setUpClass(cls):
-        if not (ROOT / "target/bin/curve").exists():
-            raise AssertionError("target/bin/curve is missing: run `rt check curve` first")
+        if not (ROOT / "crates/curve/out/curve").exists():
+            raise AssertionError("crates/curve/out/curve is missing: run `rt run` in crates/curve first")
         run(ROOT)
 
     def in_folder(self, name, family_file, path_file):
@@ -158,17 +158,20 @@ class Shown(unittest.TestCase):
         self.refuses(run(ROOT, ROOT / "examples/refused"), 9)
 
 
-# Stands in for rt: "builds" the program, which is its source as a script, exactly if the source is not the one of the stamp.
+# Stands in for rt: "builds" the program, which is its source as a script, exactly if the source or the program is not the one of
+# the stamp, and runs it.
 STUB = """#!/bin/sh
-echo "$*" >> asked
-[ ! -f broken ] || { echo "rt: curve NOT PROVED"; exit 1; }
-mkdir -p target/bin target/stamp
-if [ ! -f target/stamp/curve ] || ! cmp -s target/stamp/curve crates/curve/src/main.rt; then
-    cp crates/curve/src/main.rt target/stamp/curve
-    cp crates/curve/src/main.rt target/bin/curve
-    chmod +x target/bin/curve
-    echo built >> asked
+root=$(dirname "$0")/..
+echo "$*, in ${PWD##*/}" >> "$root/asked"
+[ ! -f "$root/broken" ] || { echo "rt: curve NOT PROVED"; exit 1; }
+mkdir -p out
+if [ ! -f out/curve ] || ! cmp -s out/curve.stamp src/main.rt; then
+    cp src/main.rt out/curve.stamp
+    cp src/main.rt out/curve
+    chmod +x out/curve
+    echo built >> "$root/asked"
 fi
+exec out/curve
 """
 
 
@@ -211,10 +214,10 @@ class Rebuilt(unittest.TestCase):
         text, said, status = self.shown()
         self.assertEqual((text, status), ("one\n", 0))
         self.assertIn("takes some minutes", said)
-        self.assertEqual(self.asked(), ["check curve", "built"])
+        self.assertEqual(self.asked(), ["run, in curve", "built"])
         for _ in range(2):
             self.assertEqual(self.shown(), ("one\n", "", 0))
-            self.assertEqual(self.asked(), ["check curve"])
+            self.assertEqual(self.asked(), ["run, in curve"])
 
     def test_a_changed_source_is_noticed(self):
         self.shown()
@@ -224,7 +227,7 @@ class Rebuilt(unittest.TestCase):
         text, said, status = self.shown()
         self.assertEqual((text, status), ("two\n", 0))
         self.assertIn("takes some minutes", said)
-        self.assertEqual(self.asked(), ["check curve", "built"])
+        self.assertEqual(self.asked(), ["run, in curve", "built"])
         self.assertEqual(self.shown(), ("two\n", "", 0))
 
     def test_a_source_with_the_time_of_the_old_one_is_noticed(self):
@@ -243,7 +246,7 @@ class Rebuilt(unittest.TestCase):
 
     def test_a_lost_program_is_built_again(self):
         self.shown()
-        (self.root / "target/bin/curve").unlink()
+        (self.root / "crates/curve/out/curve").unlink()
         text, said, status = self.shown()
         self.assertEqual((text, status), ("one\n", 0))
         self.assertIn("takes some minutes", said)

@@ -1,4 +1,4 @@
-//! The programs of target/bin, and the folders that they are run in.
+//! The programs as `rt` builds them, and the folders that they are run in.
 
 use std::fs;
 use std::path::{Path, PathBuf};
@@ -6,11 +6,13 @@ use std::path::{Path, PathBuf};
 /// A program that `rt` has built.
 pub fn program(name: &str) -> PathBuf {
     let path = Path::new(env!("CARGO_MANIFEST_DIR"))
-        .join("../target/bin")
+        .join("../crates")
+        .join(name)
+        .join("out")
         .join(name);
     assert!(
         path.exists(),
-        "{} is missing: run `rt check {name}` first",
+        "{} is missing: run `rt run` in crates/{name} first",
         path.display()
     );
     path.canonicalize().unwrap()

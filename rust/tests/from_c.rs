@@ -23,7 +23,7 @@ fn made(name: &str) -> PathBuf {
 }
 
 fn static_library() -> PathBuf {
-    root().join("target/staticlib/libphf.a")
+    root().join("crates/phf/out/libphf.a")
 }
 
 /// What tools/sharedlib makes and prints, called from another folder.

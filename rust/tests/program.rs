@@ -1,4 +1,4 @@
-//! The program target/bin/curve on pairs of files: missing, truncated, odd, too long, refused and accepted ones, and such as
+//! The program crates/curve/out/curve on pairs of files: missing, truncated, odd, too long, refused and accepted ones, and such as
 //! cannot be opened or read; and on output that cannot be written. What it has to print is worked out here by the plain
 //! implementation. No proof says what is read or written, so this is what holds the program to it.
 

@@ -1,4 +1,4 @@
-//! The region part as `reader::regions` hands it back: the program target/bin/region_part writes its bytes. The place that C
+//! The region part as `reader::regions` hands it back: the program crates/region_part/out/region_part writes its bytes. The place that C
 //! gets has to have the same ones.
 
 use phf_tests::families::{
