@@ -36,7 +36,7 @@
  *     phf_from_levels                                              140 KB
  *     phf_choose_at_most, phf_choose_between, phf_choose_volcano     4 KB
  *
- * BUILDING. tools/staticlib proves the functions and writes crates/phf/out/libphf.a, to link with a program;
+ * BUILDING. tools/staticlib proves the functions and writes target/staticlib/libphf.a, to link with a program;
  * tools/sharedlib makes target/sharedlib/libphf.so of it. Both run in any folder and print where the library is.
  *
  * THE NUMBER. Each answer but phf_part has a field `number`, and those of phf_bounds_from_p and phf_choose_... are the

@@ -2,7 +2,7 @@
 use std::path::Path;
 
 fn main() {
-    let folder = Path::new(env!("CARGO_MANIFEST_DIR")).join("../crates/phf/out");
+    let folder = Path::new(env!("CARGO_MANIFEST_DIR")).join("../target/staticlib");
     let archive = folder.join("libphf.a");
     println!("cargo:rerun-if-changed={}", archive.display());
     if !archive.exists() {

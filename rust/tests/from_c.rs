@@ -23,7 +23,7 @@ fn made(name: &str) -> PathBuf {
 }
 
 fn static_library() -> PathBuf {
-    root().join("crates/phf/out/libphf.a")
+    root().join("target/staticlib/libphf.a")
 }
 
 /// What tools/sharedlib makes and prints, called from another folder.
