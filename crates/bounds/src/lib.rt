@@ -19,7 +19,7 @@ use path::{Admitted, admit};
 use reader::family::region_count;
 use rows::line_value;
 use selection::selection_cause;
-use taking::write_taken;
+use taking::write_bound;
 
 // A bound, or the number of the first cause that holds.
 #[derive(Clone, Copy)]
@@ -63,10 +63,7 @@ pub fn bound(file: &[u8], selection: &[u8], taken: &mut [u8]) -> Bounded
     if cause != 0 {
         return Bounded::Refused(cause);
     }
-    let mut totals = [0u16; 8191];
-    let value = line_value(file, selection, &mut totals);
-    write_taken(file, &totals, taken);
-    Bounded::Bound(value)
+    Bounded::Bound(write_bound(file, selection, taken))
 }
 
 // The bound of a selection, and for each region, in file order, its inside total.

@@ -2,8 +2,11 @@
 // taken one ends, and the outermost full region around a region is taken.
 ghost use Rattle.std.specs.Prelude.{◌++◌, ◌≡◌, ◌≤◌, length, drop};
 ghost use Rattle.reader.specs.Family.{family_of, region_count};
+ghost use Rattle.bounds.specs.Selections.{bound_of, taken_of};
+ghost use Rattle.bounds.specs.Private.Rows.{Ready};
 ghost use Rattle.bounds.specs.Private.Takes.{TakeDecided, taken_along};
 
+use crate::rows::line_value;
 use reader::family::{Leaf, region_count, region_of};
 
 // A region's byte, and the last leaf of the latest taken region.
@@ -49,4 +52,19 @@ pub(crate) fn write_taken(file: &[u8], totals: &[u16], taken: &mut [u8])
         until = latest;
         k += 1;
     }
+}
+
+// The bound of a selection that no cause declines, with its taken bytes. The inside totals stand in a function of their own, so that
+// the causes need no stack beside them.
+#[inline(never)]
+pub(crate) fn write_bound(file: &[u8], selection: &[u8], taken: &mut [u8]) -> u16
+    requires ready { Ready (family_of file.now) selection.now }
+    requires room { region_count (family_of file.now) ≤ length taken.old }
+    ensures value { result ≡ bound_of (family_of file.now) selection.now }
+    ensures taken_after { taken.new ≡ taken_of (family_of file.now) selection.now ++ drop (region_count (family_of file.now)) taken.old }
+{
+    let mut totals = [0u16; 8191];
+    let value = line_value(file, selection, &mut totals);
+    write_taken(file, &totals, taken);
+    value
 }

@@ -28,7 +28,7 @@ eight_family = family_of eight_file
 abbrev pub eight_path : List ℕ
 eight_path = 7 ∷ 3 ∷ 1 ∷ 4 ∷ 6 ∷ 2 ∷ 5 ∷ 8 ∷ []
 
--- other p_values for it, with that of peptide 6 to be given
+-- other p-values for it, with that of peptide 6 to be given
 abbrev pub mixed_with : ℕ → List ℕ
 mixed_with p = 8000 ∷ 13000 ∷ 7000 ∷ 10 ∷ 600000 ∷ p ∷ 900000 ∷ 5 ∷ []
 
@@ -47,7 +47,7 @@ told path ps level room = first_cause (hybrid_causes eight_file path ps level ro
 pub record HybridExamples : Type 0 where
   -- the region bounds by themselves
   pub region_values : curve_values eight_family eight_path ≡ 0 ∷ 0 ∷ 1 ∷ 2 ∷ 2 ∷ 3 ∷ 4 ∷ 4 ∷ 4 ∷ []
-  -- With the p_values of the examples of `pvalues` the Simes bound is nowhere the larger one.
+  -- With the p-values of the examples of `pvalues` the Simes bound is nowhere the larger one.
   pub simes_50000 : simes_values eight_values 50000 ≡ 0 ∷ 0 ∷ 0 ∷ 0 ∷ 0 ∷ 1 ∷ 2 ∷ 3 ∷ 3 ∷ []
   pub hybrid_50000 : hybrid_values eight_family eight_values 50000 eight_path ≡ 0 ∷ 0 ∷ 0 ∷ 0 ∷ 0 ∷ 1 ∷ 2 ∷ 3 ∷ 3 ∷ []
   pub simes_1000000 : simes_values eight_values 1000000 ≡ 0 ∷ 0 ∷ 0 ∷ 0 ∷ 0 ∷ 0 ∷ 1 ∷ 2 ∷ 2 ∷ []
@@ -71,7 +71,7 @@ pub record HybridExamples : Type 0 where
   pub both_accepted : Accepted eight_file × Accepted (file_of free)
   pub other_curve : curve_values free eight_path ≡ 0 ∷ 1 ∷ 2 ∷ 3 ∷ 4 ∷ 5 ∷ 6 ∷ 7 ∷ 8 ∷ []
   pub same_hybrid : hybrid_values free eight_values 50000 eight_path ≡ hybrid_values eight_family eight_values 50000 eight_path
-  -- A path of one peptide: its thresholds are those of m = 8 peptides, and so is the number of p_values. With 1 for m the value would be 0.
+  -- A path of one peptide: its thresholds are those of m = 8 peptides, and so is the number of p-values. With 1 for m the value would be 0.
   pub short_path : hybrid_values eight_family (mixed_with 12500) 50000 (3 ∷ []) ≡ 0 ∷ 1 ∷ []
   pub short_none : told (3 ∷ []) (mixed_with 12500) 50000 2 ≡ 0
   pub short_20 : told (3 ∷ []) (7000 ∷ []) 50000 2 ≡ 20

@@ -72,10 +72,10 @@ pub record HybridCurve : Type 0 where
   -- A larger level gives no larger values.
   pub larger_level : (f : AcceptedFile) (c d : HybridCall f) → c.path ≡ d.path → c.p_values ≡ d.p_values → c.level ≤ d.level
       → (t : ℕ) → t ≤ length c.path → get_or d.new t 0 ≤ get_or c.new t 0
-  -- Raised p_values give no smaller values, so that p_values may be rounded up.
+  -- Raised p-values give no smaller values, so that p-values may be rounded up.
   pub raised_p_values : (f : AcceptedFile) (c d : HybridCall f) → c.path ≡ d.path → c.level ≡ d.level
       → ((i : ℕ) → get_or c.p_values i 0 ≤ get_or d.p_values i 0) → (t : ℕ) → t ≤ length c.path → get_or c.new t 0 ≤ get_or d.new t 0
-  -- Two families whose region curves agree along a path have the same values along it, with the same p_values, and so the same m, and
+  -- Two families whose region curves agree along a path have the same values along it, with the same p-values, and so the same m, and
   -- the same level.
   pub same_curves : (f g : AcceptedFile) (c : HybridCall f) (d : HybridCall g) → c.path ≡ d.path → c.p_values ≡ d.p_values → c.level ≡ d.level
       → ((t : ℕ) → t ≤ length c.path → entry (family_of f.file) c.path t ≡ entry (family_of g.file) c.path t)

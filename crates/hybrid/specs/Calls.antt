@@ -8,7 +8,7 @@ use Rattle.bounds.specs.declared.Curved.{Curved}
 use Rattle.pvalues.specs.Calls.{room_and_p_values}
 use Rattle.hybrid.specs.Hybrid.{hybrid_values, cause23}
 
--- what is tried after the file and the path: values under T + 1, the p_values, then the level
+-- what is tried after the file and the path: values under T + 1, the p-values, then the level
 unfoldable pub hybrid_inputs : List ℕ → List ℕ → List ℕ → ℕ → ℕ → List Cause
 hybrid_inputs file path ps level room =
     room_and_p_values (short (length path + 1) room) (family_of file).peptides ps

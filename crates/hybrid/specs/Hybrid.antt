@@ -1,4 +1,4 @@
--- The Simes bound of a selection, the hybrid curve, and cause 23. p_values and the level are whole millionths.
+-- The Simes bound of a selection, the hybrid curve, and cause 23. p-values and the level are whole millionths.
 use Rattle.std.specs.Prelude.{ℕ, zero, suc, ◌+◌, ◌-◌, ◌*◌, ◌≤◌, min, Bool, not, cond, ◌&&◌, ◌||◌, List, ◌≡◌, length, get_or, take, eqb, ltb}
 use Rattle.reader.specs.Lists.{tabulate}
 use Rattle.reader.specs.Family.{Family}

@@ -80,7 +80,7 @@ module _ (new old now : List ℕ) (n : ℕ) (long : length new ≡ n) (e : now �
   rest_is : drop n now ≡ drop n old
   rest_is = rw e (drop_at new (drop (length new) old) n long ∙ ap (λ (k : ℕ). drop k old) long)
 
--- The file by level of a well_formed_lem family.
+-- The file by level of a well-formed family.
 
 module _ (F : Family) (w : WellFormed F) where
   count_small : (h : ℕ) → get_or (level_counts F) h 0 < 65536

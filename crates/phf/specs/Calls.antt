@@ -1,6 +1,6 @@
 -- What the calls of the C interface promise, defined from their inputs. What they leave in lent lists is promised in the words of
 -- the libraries (`TakenWrites`, `ListWrites`, `ChooseWrites`, `CurveValuesWrites`, `CurveMarksWrites`, `ReduceWrites`, `FromPWrites`,
--- `HybridWrites`, `ToLevelsWrites`, `FromLevelsWrites`), and so are the answers of a choice and of bounds from p_values
+-- `HybridWrites`, `ToLevelsWrites`, `FromLevelsWrites`), and so are the answers of a choice and of bounds from p-values
 -- (`ChooseAnswers`, `FromPAnswers`), which are a number there too. The theorem of demand 1 (`DemandOne`) rests on these promises.
 use Rattle.std.specs.Prelude.{ℕ, List, [], ◌∷◌, ◌≡◌, length, take, drop}
 use Rattle.reader.specs.Family.{family_of, region_count}

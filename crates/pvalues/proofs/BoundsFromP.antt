@@ -35,7 +35,7 @@ use Rattle.pvalues.proofs.Theory.LoweredIsZ.{region_size, size_most}
 use Rattle.pvalues.proofs.Theory.ZBetween.{z_enough, within_has, region_no_smaller}
 use Rattle.pvalues.proofs.NewFile.{from_p_length}
 
--- The z of a region with these ends on the line of the peptides and these p_values, and where they come from.
+-- The z of a region with these ends on the line of the peptides and these p-values, and where they come from.
 pub record RegionZ (F : Family) (ps : List ℕ) (deviationSquared : ℕ) (r : Region) (z : ℕ) : Type 0 where
   -- its p-values: one for each of its peptides, from low + 1 to high
   pub one_each : length (region_p_values F ps r) ≡ (range_of F r).high - (range_of F r).low
@@ -55,7 +55,7 @@ pub record BoundsFromP : Type 0 where
   -- What it writes is as long as the given file, and is an accepted file: one of those that the demands speak of.
   pub same_length : (f : AcceptedFile) (c : FromPCall f) → length (new_file f c) ≡ length f.file
   pub accepted : (f : AcceptedFile) (c : FromPCall f) → (g : AcceptedFile) × (g.file ≡ new_file f c)
-  -- It has the same m, leaf lengths and leaf ranges, and each region has its z from the p_values.
+  -- It has the same m, leaf lengths and leaf ranges, and each region has its z from the p-values.
   pub same_ranges : (f : AcceptedFile) (c : FromPCall f) → SameRanges (family_of f.file) (new_family f c)
   pub bounds : (f : AcceptedFile) (c : FromPCall f) (k : ℕ) → k < region_count (family_of f.file)
       → RegionZ (family_of f.file) c.p_values c.deviation_squared (region (family_of f.file) k) (region (new_family f c) k).z
@@ -64,7 +64,7 @@ pub record BoundsFromP : Type 0 where
   -- A larger constant gives no smaller z.
   pub larger_constant : (f : AcceptedFile) (c d : FromPCall f) → c.p_values ≡ d.p_values → c.deviation_squared ≤ d.deviation_squared
       → (k : ℕ) → k < region_count (family_of f.file) → (region (new_family f c) k).z ≤ (region (new_family f d) k).z
-  -- Raised p_values give no smaller z, so that p_values may be rounded up; nor has a region a smaller z than one inside it.
+  -- Raised p-values give no smaller z, so that p-values may be rounded up; nor has a region a smaller z than one inside it.
   pub raised_p_values : (f : AcceptedFile) (c d : FromPCall f) → c.deviation_squared ≡ d.deviation_squared → ((i : ℕ) → get_or c.p_values i 0 ≤ get_or d.p_values i 0)
       → (k : ℕ) → k < region_count (family_of f.file) → (region (new_family f c) k).z ≤ (region (new_family f d) k).z
   pub region_around : (f : AcceptedFile) (c : FromPCall f) (j k : ℕ) → j < region_count (family_of f.file) → k < region_count (family_of f.file)
@@ -72,7 +72,7 @@ pub record BoundsFromP : Type 0 where
   -- z is at least the constant, in whole units, where the region has so many peptides: the source says so below its (16).
   pub constant_reached : (f : AcceptedFile) (c : FromPCall f) (k v : ℕ) → k < region_count (family_of f.file) → v ≤ (range_at (family_of f.file) k).high - (range_at (family_of f.file) k).low
       → v * million ≤ c.deviation_squared → v ≤ (region (new_family f c) k).z
-  -- The z of the given file are not used: with the same ranges and p_values and the same constant, the same file is written.
+  -- The z of the given file are not used: with the same ranges and p-values and the same constant, the same file is written.
   pub given_z_unused : (f g : AcceptedFile) (c : FromPCall f) (d : FromPCall g) → SameRanges (family_of f.file) (family_of g.file)
       → c.p_values ≡ d.p_values → c.deviation_squared ≡ d.deviation_squared → new_file f c ≡ new_file g d
 

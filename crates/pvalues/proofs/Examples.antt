@@ -1,4 +1,4 @@
--- Worked examples of the z from p_values, of the file that is written, and of the causes at their edges, computed.
+-- Worked examples of the z from p-values, of the file that is written, and of the causes at their edges, computed.
 use Prim.Native.Nat.{ℕ}
 use mathlib.Core.Bool.{true, false}
 use mathlib.Core.List.{List, [], ◌∷◌, ◌++◌, map}
@@ -16,7 +16,7 @@ use Rattle.bounds.specs.Curves.{largest_up_to}
 use Rattle.pvalues.specs.FromP.{gap, over, no_excess, excess, passes, passes_at, thresholds, every, z_of, region_p_values, bounded_region, family_from_p, cause20, cause21, cause22}
 use Rattle.pvalues.specs.Calls.{room_and_p_values, from_p_inputs, from_p_causes, file_from_p}
 
--- the p_values of the peptides of the eight-peptide family
+-- the p-values of the peptides of the eight-peptide family
 abbrev pub eight_values : List ℕ
 eight_values = 1000 ∷ 500000 ∷ 20 ∷ 300 ∷ 900000 ∷ 40000 ∷ 10 ∷ 5 ∷ []
 

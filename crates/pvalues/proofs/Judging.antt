@@ -25,7 +25,7 @@ use Rattle.pvalues.specs.Calls.{room_and_p_values, from_p_inputs, from_p_causes}
 use Rattle.pvalues.specs.Private.Lowering.{PValues}
 use Rattle.pvalues.specs.Private.Judging.{FromPJudged}
 
--- The p_values, one by one.
+-- The p-values, one by one.
 
 -- the p-value at a place is over 1,000,000
 abbrev pub over_one : List ℕ → ℕ → Bool
@@ -48,7 +48,7 @@ unfolding cause21
 values_most ps h i =
     ⊎_elim (λ (l : length ps ≤ i). omega (arith, byte_past ps i l)) (λ (l : i < length ps). ltb-false million (get_or ps i 0) (none_at (over_one ps) (length ps) i h l)) (le_or_lt (length ps) i)
 
--- The room and the p_values.
+-- The room and the p-values.
 
 module _ (tooShort : Bool) (m : ℕ) (ps : List ℕ) where
   pub room_16 : tooShort ≡ true → 16 ≡ first_cause (room_and_p_values tooShort m ps)

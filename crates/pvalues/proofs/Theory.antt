@@ -1,4 +1,4 @@
--- The mathematics of the z from p_values. It speaks of definitions alone; no law here follows a function's code.
+-- The mathematics of the z from p-values. It speaks of definitions alone; no law here follows a function's code.
 pub mod Passing
 pub mod Largest
 pub mod Counted

@@ -5,7 +5,7 @@ use Rattle.reader.specs.Causes.{Cause, first_cause, file_causes}
 use Rattle.reader.specs.Calls.{written, short}
 use Rattle.pvalues.specs.FromP.{family_from_p, cause20, cause21, cause22}
 
--- what `bounds_from_p` and `hybrid` try after the family, and the path if there is one: an output that is too short, then the p_values
+-- what `bounds_from_p` and `hybrid` try after the family, and the path if there is one: an output that is too short, then the p-values
 unfoldable pub room_and_p_values : Bool → ℕ → List ℕ → List Cause
 room_and_p_values tooShort m ps =
     record { number = 16; holds = tooShort }
@@ -13,7 +13,7 @@ room_and_p_values tooShort m ps =
     ∷ record { number = 21; holds = cause21 ps }
     ∷ []
 
--- what is tried after the file: an output under the family's length, the p_values, then the constant
+-- what is tried after the file: an output under the family's length, the p-values, then the constant
 unfoldable pub from_p_inputs : List ℕ → List ℕ → ℕ → ℕ → List Cause
 from_p_inputs file ps deviationSquared room =
     room_and_p_values (short (length file) room) (family_of file).peptides ps
@@ -23,7 +23,7 @@ from_p_inputs file ps deviationSquared room =
 unfoldable pub from_p_causes : List ℕ → List ℕ → ℕ → ℕ → List Cause
 from_p_causes file ps deviationSquared room = file_causes file ++ from_p_inputs file ps deviationSquared room
 
--- the file of the family with the z from the p_values
+-- the file of the family with the z from the p-values
 unfoldable pub file_from_p : List ℕ → List ℕ → ℕ → List ℕ
 file_from_p file ps deviationSquared = file_of (family_from_p (family_of file) ps deviationSquared)
 

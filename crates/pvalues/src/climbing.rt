@@ -3,10 +3,11 @@
 // threshold. Three things need no code. At equal p-values more are left than are over the threshold, so that the test is weaker, and it
 // is exact at the last of them. At the threshold 0, where no p-value is 0, every z up to the number of peptides passes. At 1,000,000
 // the gap is 0, and every z passes.
-ghost use Rattle.std.specs.Prelude.{◌≡◌, ℕ, ◌-◌, ◌≤◌, length};
+ghost use Rattle.std.specs.Prelude.{◌≡◌, ℕ, ◌-◌, ◌≤◌, length, take};
 ghost use Rattle.reader.specs.Family.{Family, family_of};
 ghost use Rattle.reader.specs.WellFormed.{Nested};
 ghost use Rattle.bounds.specs.Holding.{LastHolding};
+ghost use Rattle.pvalues.specs.Private.Ordering.{InOrder};
 ghost use Rattle.pvalues.specs.Private.Lowering.{PValues};
 ghost use Rattle.pvalues.specs.Private.Climbing.{Parented, Climbable, Lowered, BoundsFound};
 
@@ -45,21 +46,24 @@ fn lower_regions(
     }
 }
 
-// Writes the z of every region.
-pub(crate) fn find_bounds(
+// Writes the z of every region, given the peptides by rising p-value. Its arrays stand in a function of their own, so that the ordering
+// needs no stack beside them.
+#[inline(never)]
+fn lower_in_order(
     file: &[u8],
     parents: &[u16],
     p_values: &[u32],
     deviation_squared: u32,
+    order: &[u16],
     bounds: &mut [u16],
 )
     requires parented { Parented (family_of file.now) parents.now }
     requires pvalues { PValues (family_of file.now) p_values.now deviation_squared }
+    requires order_length { length order.now ≡ 4096 }
+    requires in_order { InOrder p_values.now (take (length p_values.now) order.now) }
     requires in_bounds { 8191 ≤ length bounds.old }
     ensures { BoundsFound (family_of file.now) p_values.now deviation_squared bounds.new }
 {
-    let mut order = [0u16; 4096];
-    order_by_p(p_values, &mut order);
     let mut innermost = [0u16; 4096];
     let mut left = [0u16; 8191];
     fill_innermost(file, &mut innermost, &mut left, bounds);
@@ -77,4 +81,22 @@ pub(crate) fn find_bounds(
         );
         i += 1;
     }
+}
+
+// Writes the z of every region.
+pub(crate) fn find_bounds(
+    file: &[u8],
+    parents: &[u16],
+    p_values: &[u32],
+    deviation_squared: u32,
+    bounds: &mut [u16],
+)
+    requires parented { Parented (family_of file.now) parents.now }
+    requires pvalues { PValues (family_of file.now) p_values.now deviation_squared }
+    requires in_bounds { 8191 ≤ length bounds.old }
+    ensures { BoundsFound (family_of file.now) p_values.now deviation_squared bounds.new }
+{
+    let mut order = [0u16; 4096];
+    order_by_p(p_values, &mut order);
+    lower_in_order(file, parents, p_values, deviation_squared, &order, bounds);
 }

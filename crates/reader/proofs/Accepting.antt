@@ -1,4 +1,4 @@
--- An accepted file holds a well_formed_lem family, and what the check answers says so.
+-- An accepted file holds a well-formed family, and what the check answers says so.
 --   ordered_if_clear                    where causes 7 and 8 do not hold, the regions lie on the leaves, in file order
 --   header_numbered, file_numbered      no cause of the header, or of the file, has the number 0, which stands for none
 --   HeaderClear                         none of the causes 1 to 5 holds
@@ -10,7 +10,7 @@
 --   file_header                         where a cause of the header holds, the first of them is the first of the file
 --   file_family                         where none does, the first of the family is the first of the file
 --   accepted_header, accepted_family    of an accepted file none of the causes 1 to 5, and none of 6 to 10 holds
---   well_formed_lem                         an accepted file holds a well_formed_lem family
+--   well_formed_lem                         an accepted file holds a well-formed family
 --   reports_refused, reports_accepted   the first cause that holds, or m, N and K where none does, is what the check has to answer
 --   learns_refused, learns_accepted     what a caller learns from each answer: the first cause, or that none holds and what m, N and K are
 --   few_regions                         where none of the causes 1 to 5 holds, K is at most 8,191

@@ -1,4 +1,4 @@
--- A family and its file: each is read back from the other, and the file of a well_formed_lem family is accepted.
+-- A family and its file: each is read back from the other, and the file of a well-formed family is accepted.
 use Prim.Native.Nat.{ℕ, zero, suc, ◌+◌, ◌*◌, ◌/◌, ◌%◌, ◌<◌, ◌≤◌}
 use native.Mathlib.Nat.{not-suc-le-zero, le_of_suc-le-suc, eq-or-lt_of_le, zero-add, suc-add}
 use native.Mathlib.Omega.{arith}
@@ -248,7 +248,7 @@ module _ (F : Family) (w : WellFormed F) where
         z = w.z_fits;
       }
 
-  -- A well_formed_lem family is read back from its file.
+  -- A well-formed family is read back from its file.
   pub read_back : family_of (file_of F) ≡ F
   read_back = fitting_read_back F well_formed_fits
 
@@ -259,7 +259,7 @@ module _ (F : Family) (w : WellFormed F) where
       inl
       (eq-or-lt_of_le (w.ordered.rising k (k + 1) (omega arith) h))
 
-  -- The file of a well_formed_lem family is accepted.
+  -- The file of a well-formed family is accepted.
   pub file_accepted : Accepted (file_of F)
   file_accepted =
       judged_as_family F well_formed_fits

@@ -1,5 +1,5 @@
 -- Each cause as a fact: where it does not hold the fact does, and the other way round. The loops and the laws of a
--- well_formed_lem family use these and open no cause again.
+-- well-formed family use these and open no cause again.
 use Prim.Native.Nat.{ℕ, zero, suc, ◌+◌, ◌*◌, ◌-◌, ◌<◌, ◌≤◌}
 use native.Mathlib.Omega.{arith}
 use mathlib.Core.Bool.{Bool, true, false, not, cond, ◌&&◌, ◌||◌}

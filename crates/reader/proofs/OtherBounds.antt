@@ -1,4 +1,4 @@
--- A family with the ranges of a well_formed_lem one, and any z that fit, is well formed.
+-- A family with the ranges of a well-formed one, and any z that fit, is well formed.
 use Prim.Native.Nat.{ℕ, ◌<◌}
 use native.Mathlib.Omega.{arith}
 use mathlib.Core.Logic.{inl, inr, ⊎_elim}

@@ -1,4 +1,4 @@
--- A well_formed_lem family, as plain facts. A file is accepted exactly when it is the file of a well_formed_lem family.
+-- A well-formed family, as plain facts. A file is accepted exactly when it is the file of a well-formed family.
 use Rattle.std.specs.Prelude.{ℕ, suc, ◌*◌, ◌-◌, ◌<◌, ◌≤◌, List, ◌⊎◌, ◌≡◌, length, get_or}
 use Rattle.reader.specs.Lists.{sum}
 use Rattle.reader.specs.Family.{Family, leaves, region_count, region}

@@ -63,7 +63,7 @@ pub record RuleExamples : Type 0 where
   pub all_below : passes (AtMost (inf false)) (row one zero) ≡ true
   pub none_below : passes (AtMost (inf true)) (row zero zero) ≡ false
   pub none_outside : passes (Volcano one (inf false)) (row zero (bits 0x7fef_ffff_ffff_ffff)) ≡ false
-  -- p_values
+  -- p-values
   pub p_zero : off_scale zero ≡ false
   pub p_minus_zero : off_scale minus_zero ≡ false
   pub p_under_zero : off_scale next_before_zero ≡ true

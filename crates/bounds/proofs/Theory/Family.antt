@@ -97,7 +97,7 @@ module _ {F : Family} (w : WellFormed F) where
   unfolding range_of
   region_proper k h = record { order = w.ordered.first_last k h; ends = rw w.lengths_sum at (up_to_most F (region F k).last (w.ordered.last_leaf k h)) }
 
-  -- The ranges of a well_formed_lem family are laminar.
+  -- The ranges of a well-formed family are laminar.
   pub family_laminar : Laminar F.peptides (ranges_of F)
   family_laminar = laminar_at (no_range F) (ranges_of F) proper two
     where

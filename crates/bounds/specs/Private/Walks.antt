@@ -23,7 +23,7 @@ pub record Distinct (m : ℕ) (path : List ℕ) : Type 0 where
   pub most : (i : ℕ) → i < length path → get_or path i 0 ≤ m
   pub differ : (i j : ℕ) → i < j → j < length path → get_or path i 0 ≡ get_or path j 0 → ⊥
 
--- what a walk goes by: a well_formed_lem family, its parents, and a path of different peptides
+-- what a walk goes by: a well-formed family, its parents, and a path of different peptides
 pub record Walkable (F : Family) (path P : List ℕ) : Type 0 where
   pub well : WellFormed F
   pub nested : Nested F P

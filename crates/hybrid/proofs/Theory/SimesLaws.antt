@@ -9,7 +9,7 @@
 --   simes_mono         a larger selection has no smaller one
 --   simes_same         selections that are the same on 1 to m have the same
 --   simes_level        with a larger level it is no larger
---   simes_raised       with larger p_values it is no smaller
+--   simes_raised       with larger p-values it is no smaller
 --   simes_but_one      a selection of which all peptides but one are in another has at most one more
 --   simes_one_more     so has the other selection with one more peptide
 --   simes_holds        a set that has at most k - 1 of the peptides not counted at k, for each k, has no more of the selection

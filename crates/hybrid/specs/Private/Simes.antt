@@ -57,7 +57,7 @@ pub record Seated (m : ℕ) (ps : List ℕ) (level : ℕ) (S : Peptides) (slots 
   pub most : (k : ℕ) → 0 < k → k ≤ m → taken_from m slots k ≤ counted_of m ps level S k
   pub equal : (k : ℕ) → 0 < k → k ≤ m → is_free slots k ≡ true → taken_from m slots k ≡ counted_of m ps level S k
 
--- a path, p_values and a level that are as they should be
+-- a path, p-values and a level that are as they should be
 pub record SimesInputs (m : ℕ) (path ps : List ℕ) (level : ℕ) : Type 0 where
   pub some : 0 < m
   pub few : m ≤ 4096

@@ -11,7 +11,7 @@
 --   level_total_lem                  the level counts add to the number of regions
 --   in_level_lem                     what stands at a place of a level
 --   LeveledWell                  what a family by level has: no cause holds, and in file order it is the family
---   leveled_well                 so it is for every well_formed_lem family
+--   leveled_well                 so it is for every well-formed family
 --   Stretch, stretch             the level and the place in it of each region that the level counts have
 --   LeveledAt, leveled_at        the level and the place in it, where cause 27 does not hold
 --   none_repeated                where 27 does not hold, no region repeats
@@ -187,7 +187,7 @@ module _ (F : Family) where
       rw (level_starts h (omega arith))
       (by_key_at (level_of F) no_region F.regions 65 (suc h) i (omega arith) (omega (arith, level_count h l)))
 
--- A well_formed_lem family by level.
+-- A well-formed family by level.
 
 pub record LeveledWell (F : Family) : Type 0 where
   pub back : in_file_order (by_level F) ≡ F

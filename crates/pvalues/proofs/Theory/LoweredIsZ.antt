@@ -1,7 +1,7 @@
 -- The z of a region is what is left when its number of peptides is lowered along the peptides by rising p-value.
 --   lowered_is_z     for any region, given by the peptides that it has
---   region_counted   a region's p_values that pass a test, counted by peptide
---   region_size      a region has as many p_values as peptides
+--   region_counted   a region's p-values that pass a test, counted by peptide
+--   region_size      a region has as many p-values as peptides
 --   size_most        these are at most all peptides
 --   region_z         lowered_is_z for the k-th region of a family
 use Prim.Native.Nat.{ℕ, ◌-◌, ◌<◌, ◌≤◌}
@@ -80,7 +80,7 @@ module _ (C : ℕ) (ps : List ℕ) (X : ℕ → Bool) where
   left_without : (left i : ℕ) (order : List ℕ) → left ≡ length (those X (i ∷ order)) → X i ≡ false → left ≡ length (those X order)
   left_without left i order e x = omega (arith, those_first X i order, ap bit x)
 
-  -- What passes at each peptide passes at every threshold t. While t is under the p_values all that are left are over it; from then on
+  -- What passes at each peptide passes at every threshold t. While t is under the p-values all that are left are over it; from then on
   -- the last peptide that is not over t had a larger gap.
   along_at : (t v left : ℕ) (order : List ℕ) → left ≡ length (those X order) → Rising (p_value ps) order → passes C (gap t) left v ≡ true
       → pass_along left order v ≡ true → passes C (gap t) (length (those (over_in t) order)) v ≡ true
@@ -103,7 +103,7 @@ module _ (C : ℕ) (ps : List ℕ) (X : ℕ → Bool) where
       (λ (x : X i ≡ false). rw (not_counted t i order (rw x)) (along_at t v left order (left_without left i order e x) r.1 h (rw x at a)))
       (test (X i))
 
-  -- What passes at each of the region's p_values passes along the list: there no fewer are left than are over the threshold.
+  -- What passes at each of the region's p-values passes along the list: there no fewer are left than are over the threshold.
   along_from : (v left : ℕ) (order : List ℕ) → left ≡ length (those X order) → Rising (p_value ps) order
       → ((i : ℕ) → In i order → X i ≡ true → passes C (gap (p_value ps i)) (length (those (over_in (p_value ps i)) order)) v ≡ true)
       → pass_along left order v ≡ true
@@ -124,7 +124,7 @@ module _ (C : ℕ) (ps : List ℕ) (X : ℕ → Bool) where
       (λ (x : X i ≡ false). rw x (along_from v left order (left_without left i order e x) r.1 rest))
       (test (X i))
 
--- rs are the p_values of those peptides of the list that the region has
+-- rs are the p-values of those peptides of the list that the region has
 module _ (C : ℕ) (ps order : List ℕ) (X : ℕ → Bool) (rs : List ℕ) (rising : Rising (p_value ps) order)
     (counted : (f : ℕ → Bool) → length (those f rs) ≡ length (those (λ i. X i && f (p_value ps i)) order)) where
   all_counted : length rs ≡ length (those X order)

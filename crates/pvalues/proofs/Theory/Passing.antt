@@ -1,12 +1,12 @@
 -- When v passes at a threshold.
 --   passes_free       v passes with any constant if its excess is 0 or negative
 --   passes_is         one inequality says it: where the excess is negative, `excess` is 0
---   passes_weaker     with a larger constant, a smaller gap and more p_values over the threshold, each smaller v passes too
+--   passes_weaker     with a larger constant, a smaller gap and more p-values over the threshold, each smaller v passes too
 --   passes_constant   .. with a larger constant alone
 --   passes_gap        .. with a smaller gap alone
---   passes_over       .. with more p_values over the threshold alone
+--   passes_over       .. with more p-values over the threshold alone
 --   passes_down       the v that pass are closed downward
---   passes_few        v passes if it is at most the number of p_values over the threshold
+--   passes_few        v passes if it is at most the number of p-values over the threshold
 --   passes_zero       0 passes
 --   fails_positive    what fails is not 0
 --   passes_no_gap     with a gap of 0 every v passes

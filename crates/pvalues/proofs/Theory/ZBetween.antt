@@ -1,7 +1,7 @@
--- How the z of two lists of p_values, and of regions one inside the other, lie to each other.
---   z_over              where no fewer p_values are over each threshold, z is no smaller
+-- How the z of two lists of p-values, and of regions one inside the other, lie to each other.
+--   z_over              where no fewer p-values are over each threshold, z is no smaller
 --   z_enough            each number up to n passes that is at most the constant, in whole units
---   region_no_smaller   the z of a region is no smaller than that of one whose peptides it has, with p_values that are no larger
+--   region_no_smaller   the z of a region is no smaller than that of one whose peptides it has, with p-values that are no larger
 --   within_has          a region has the peptides of a region whose leaves are its own
 use Prim.Native.Nat.{ℕ, zero, suc, ◌-◌, ◌*◌, ◌<◌, ◌≤◌}
 use mathlib.Core.Bool.{Bool, true, ◌&&◌}

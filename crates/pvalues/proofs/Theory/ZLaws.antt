@@ -1,10 +1,10 @@
--- The z of a region's p_values.
+-- The z of a region's p-values.
 --   every_at            where every element passes, each member does
 --   every_holds         where each member passes, every element does
 --   z_is                z is the largest number up to n that passes at all thresholds
 --   z_unique            no other number is
---   z_most              it is at most the number of p_values
---   z_empty             without p_values it is 0
+--   z_most              it is at most the number of p-values
+--   z_empty             without p-values it is 0
 --   z_mono              a larger constant gives no smaller z
 --   everywhere          what passes at 0 and at each p-value passes at every threshold
 --   passes_everywhere   z passes at every threshold
@@ -57,7 +57,7 @@ module _ (C : ℕ) (ps : List ℕ) where
   pub z_most : z_of C ps ≤ length ps
   z_most = z_is.most
 
-  -- At a threshold t under 1,000,000 as many p_values are over it as over the largest listed threshold up to t, and there the gap is no
+  -- At a threshold t under 1,000,000 as many p-values are over it as over the largest listed threshold up to t, and there the gap is no
   -- smaller.
   pub everywhere : (v : ℕ) → ((t : ℕ) → In t (thresholds ps) → passes_at C ps t v ≡ true) → (t : ℕ) → passes_at C ps t v ≡ true
   unfolding passes_at gap over thresholds

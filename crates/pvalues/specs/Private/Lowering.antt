@@ -6,7 +6,7 @@ use Rattle.bounds.specs.Curves.{largest_up_to}
 use Rattle.pvalues.specs.FromP.{million, gap, passes, z_of, region_p_values}
 use Rattle.pvalues.specs.Private.Ordering.{p_value}
 
--- One step at a peptide with p-value p, in a region whose z is at most z so far and which has so many p_values left, this one
+-- One step at a peptide with p-value p, in a region whose z is at most z so far and which has so many p-values left, this one
 -- included: the largest z that passes with one less over it.
 abbrev pub lower_at : ℕ → ℕ → ℕ → ℕ → ℕ
 lower_at deviationSquared p left z = largest_up_to z (passes deviationSquared (gap p) (left - 1))
@@ -30,7 +30,7 @@ size_at F k = (range_at F k).high - (range_at F k).low
 abbrev pub z_at : Family → List ℕ → ℕ → ℕ → ℕ
 z_at F ps deviationSquared k = z_of deviationSquared (region_p_values F ps (region F k))
 
--- the p_values and the constant are as they should be
+-- the p-values and the constant are as they should be
 pub record PValues (F : Family) (ps : List ℕ) (deviationSquared : ℕ) : Type 0 where
   pub values : length ps ≡ F.peptides
   pub most : (i : ℕ) → get_or ps i 0 ≤ million

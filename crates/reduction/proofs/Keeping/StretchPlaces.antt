@@ -1,4 +1,4 @@
--- The stretches of the regions of a well_formed_lem family, by the regions' places in the file.
+-- The stretches of the regions of a well-formed family, by the regions' places in the file.
 use Prim.Native.Nat.{ℕ, ◌+◌, ◌≤◌, ◌<◌}
 use mathlib.Core.Bool.{true, false}
 use mathlib.Core.Logic.{◌⊎◌, inl, inr, ⊎_elim}

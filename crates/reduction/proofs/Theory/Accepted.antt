@@ -1,4 +1,4 @@
--- The reduced family of a well_formed_lem family is well formed.
+-- The reduced family of a well-formed family is well formed.
 use Prim.Native.Nat.{ℕ, ◌≤◌, ◌<◌}
 use mathlib.Core.Bool.{true}
 use mathlib.Core.List.{List}
@@ -80,7 +80,7 @@ module _ (F : Family) (w : WellFormed F) where
       let there : how_many (inside r) R ≡ regions_around F n = ap (λ r. how_many (inside r) R) d ∙ sym (regions_around_count F n) in
       omega (arith, around_written k q i e, around_fewer q i, w.shallow n l)
 
--- The reduced family of a well_formed_lem family is well formed.
+-- The reduced family of a well-formed family is well formed.
 pub reduced_wellformed : (F : Family) → WellFormed F → WellFormed (reduced_family F)
 unfolding reduced_family written_family
 reduced_wellformed F w =

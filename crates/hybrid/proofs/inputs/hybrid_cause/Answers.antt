@@ -1,4 +1,4 @@
--- The room and the p_values are tried first, the level last.
+-- The room and the p-values are tried first, the level last.
 use mathlib.Core.Bool.{cond}
 use mathlib.Core.Path.{◌≡◌, sym, ◌∙◌}
 use Rattle.reader.specs.Causes.{first_cause}

@@ -1,4 +1,4 @@
--- The loop knows whether one of the first i p_values is over 1,000,000.
+-- The loop knows whether one of the first i p-values is over 1,000,000.
 use Prim.Native.Nat.{◌≤◌, ◌-◌}
 use mathlib.Core.Path.{◌≡◌}
 use lib.ListN.{length}

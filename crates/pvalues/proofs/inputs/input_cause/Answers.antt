@@ -1,4 +1,4 @@
--- The room and the p_values are tried first, the constant last.
+-- The room and the p-values are tried first, the constant last.
 use mathlib.Core.Bool.{cond}
 use mathlib.Core.Path.{◌≡◌, sym, ◌∙◌}
 use borrow.Author.Tests.{lt-ltb, le-ltb}

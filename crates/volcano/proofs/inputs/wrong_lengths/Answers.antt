@@ -1,4 +1,4 @@
--- The p_values are counted first, then the folds, then the places of the output.
+-- The p-values are counted first, then the folds, then the places of the output.
 use borrow.Author.Tests.{eq-eqb, ne_eqb}
 use Rattle.reader.specs.Calls.{short}
 use Rattle.volcano.specs.Rules.{cause17}

@@ -6,7 +6,7 @@ use Rattle.reader.specs.Family.{family_of, region_count}
 use Rattle.pvalues.specs.Private.Ordering.{InOrder}
 use Rattle.pvalues.specs.Private.Climbing.{LastOfFirst}
 use Rattle.pvalues.proofs.Finding.Climbs.{Coming}
-use Rattle.pvalues.proofs.climbing.find_bounds.Given as goal
+use Rattle.pvalues.proofs.climbing.lower_in_order.Given as goal
 
 abbrev pub invariant-loop-i : goal.invariant-loop-i
 invariant-loop-i l = (l.i ≤ length l.p_values)
