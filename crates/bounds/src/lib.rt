@@ -18,7 +18,7 @@ use list::{charge_of, list_cause, write_bounds};
 use path::{Admitted, admit};
 use reader::family::region_count;
 use rows::line_value;
-use selection::selection_cause;
+use selection::{bound_cause, selection_cause};
 use taking::write_bound;
 
 // A bound, or the number of the first cause that holds.
@@ -59,7 +59,7 @@ pub fn bound(file: &[u8], selection: &[u8], taken: &mut [u8]) -> Bounded
     ensures bound_answers { BoundAnswers file.now selection.now taken.old result }
     ensures taken_writes { TakenWrites file.now selection.now taken.old taken.new }
 {
-    let cause = selection_cause(file, selection, taken.len());
+    let cause = bound_cause(file, selection, taken.len());
     if cause != 0 {
         return Bounded::Refused(cause);
     }

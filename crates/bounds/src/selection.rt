@@ -66,3 +66,11 @@ pub(crate) fn selection_cause(file: &[u8], selection: &[u8], room: usize) -> u16
         Checked::Refused(number) => number,
     }
 }
+
+// The same, of `bound`. It is not made a part of that call, whose totals then need no stack beside the arrays of the check.
+#[inline(never)]
+pub(crate) fn bound_cause(file: &[u8], selection: &[u8], room: usize) -> u16
+    ensures { result ≡ first_cause (causes_with_room file.now selection.now room) }
+{
+    selection_cause(file, selection, room)
+}

@@ -15,11 +15,11 @@ use Rattle.bounds.proofs.bound.Goals as goal
 use Rattle.bounds.proofs.bound.Goals.{Else-cause-ne0}
 
 clear : (c : Else-cause-ne0) → first_cause (causes_with_room c.args.file.now c.args.selection.now (length c.args.taken.now)) ≡ 0
-clear c = sym c.selection_cause-cause.ensures ∙ c.if-cause-ne0.false
+clear c = sym c.bound_cause-cause.ensures ∙ c.if-cause-ne0.false
 
 pub returns-then-cause-ne0 : goal.returns-then-cause-ne0
 returns-then-cause-ne0 c =
-    let e = c.selection_cause-cause.ensures in record { bound_answers = refuses _ _ _ _ _ e c.if-cause-ne0.true; taken_writes = unchanged _ _ _ _ _ e c.if-cause-ne0.true }
+    let e = c.bound_cause-cause.ensures in record { bound_answers = refuses _ _ _ _ _ e c.if-cause-ne0.true; taken_writes = unchanged _ _ _ _ _ e c.if-cause-ne0.true }
 
 pub write_bound-requires : goal.write_bound-requires
 write_bound-requires c =
