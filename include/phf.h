@@ -24,14 +24,14 @@
  * largest and deepest families use of this library and 1 KB more, up to the next 4 KB; measured, not proved; a test makes every
  * call on just that much):
  *     phf_check, phf_regions                                        28 KB
- *     phf_bounds_from_p                                             84 KB
- *     phf_bound                                                     32 KB
- *     phf_bounds_list                                               32 KB
+ *     phf_bounds_from_p                                             68 KB
+ *     phf_bound                                                     28 KB
+ *     phf_bounds_list                                               28 KB
  *     phf_curve                                                     44 KB
  *     phf_cut                                                       48 KB
  *     phf_hybrid                                                    56 KB
- *     phf_reduce                                                   156 KB
- *     phf_same                                                     268 KB
+ *     phf_reduce                                                   152 KB
+ *     phf_same                                                     264 KB
  *     phf_to_levels                                                 44 KB
  *     phf_from_levels                                              140 KB
  *     phf_choose_at_most, phf_choose_between, phf_choose_volcano     4 KB

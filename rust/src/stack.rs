@@ -133,18 +133,18 @@ pub fn every_call<'a>(file: &'a [u8], path: &'a [u16]) -> Vec<Call<'a>> {
     let (p, mut bounded) = (p_values.clone(), out.clone());
     add(
         "phf_bounds_from_p",
-        84,
+        68,
         Box::new(move || phf::bounds_from_p(file, &p, DEVIATION_SQUARED, &mut bounded)),
     );
     add(
         "phf_bound",
-        32,
+        28,
         Box::new(move || phf::bound(file, &selection, &mut taken).number),
     );
     let (selections, mut bounds) = (vec![1; 32 * m], vec![0; 32]);
     add(
         "phf_bounds_list",
-        32,
+        28,
         Box::new(move || phf::bounds_list(file, &selections, 32, 0, &mut bounds).number),
     );
     add(
@@ -165,10 +165,10 @@ pub fn every_call<'a>(file: &'a [u8], path: &'a [u16]) -> Vec<Call<'a>> {
     );
     add(
         "phf_reduce",
-        156,
+        152,
         Box::new(move || phf::reduce(file, &mut out).number),
     );
-    add("phf_same", 268, Box::new(|| phf::same(file, file).number));
+    add("phf_same", 264, Box::new(|| phf::same(file, file).number));
     let mut by_level = vec![0; 57482];
     add(
         "phf_to_levels",
