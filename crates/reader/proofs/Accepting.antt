@@ -1,6 +1,7 @@
 -- An accepted file holds a well-formed family, and what the check answers says so.
 --   ordered_if_clear                    where causes 7 and 8 do not hold, the regions lie on the leaves, in file order
 --   header_numbered, file_numbered      no cause of the header, or of the file, has the number 0, which stands for none
+--   file_lacks                          nor 13, with which a place comes
 --   HeaderClear                         none of the causes 1 to 5 holds
 --   header_clear                        so it is where the first cause of the header is 0
 --   header_whole                        and then the file has all the lengths and regions that its header counts
@@ -47,7 +48,7 @@ use Rattle.reader.specs.Calls.{sizes, counts, checked, CheckAnswers, region_part
 use Rattle.reader.proofs.Below.{below_suc}
 use Rattle.reader.proofs.Parsed.{leaves_read, regions_read, region_read, number_fits}
 use Rattle.reader.proofs.First.{Numbered, head_clear, join_clear, join_holds, clear_left, clear_right}
-use Rattle.reader.proofs.Refusals.{nothing_beside, lacking, says_ok, says_err, learns_ok, learns_err}
+use Rattle.reader.proofs.Refusals.{Lacks, says_ok, says_err, learns_ok, learns_err}
 use Rattle.reader.proofs.Judged.{Before, peptides_counted, leaves_counted, regions_counted, laid_down, lengths_clear, regions_placed, regions_rise}
 use Rattle.reader.proofs.Climbing.{nested_if_clear, shallow_if_clear}
 
@@ -88,6 +89,11 @@ header_numbered s = (omega arith, (omega arith, (omega arith, (omega arith, (ome
 pub file_numbered : (s : List ℕ) → Numbered (file_causes s)
 unfolding header_causes family_causes file_causes
 file_numbered s = omega arith
+
+-- nor 13, with which a place comes
+pub file_lacks : (s : List ℕ) → Lacks 13 (file_causes s)
+unfolding header_causes family_causes file_causes
+file_lacks s = omega arith
 
 pub record HeaderClear (s : List ℕ) : Type 0 where
   pub no1 : cause1 mark s ≡ false
@@ -205,9 +211,8 @@ module _ (s : List ℕ) where
 
 module _ (s : List ℕ) where
   pub reports_refused : (e : Refusal) → number_of e ≡ first_cause (file_causes s) → CheckAnswers s (Err e)
-  unfolding checked header_causes family_causes file_causes
-  reports_refused e h =
-      says_err sizes (file_causes s) _ e h (nothing_beside e (λ n. lacking 13 (file_causes s) (omega arith) (omega arith) (sym h ∙ n)))
+  unfolding checked
+  reports_refused e h = says_err sizes (file_causes s) _ e (file_lacks s) h
 
   pub reports_accepted : (n : Sizes) → Accepted s → sizes n ≡ counts (family_of s) → CheckAnswers s (Ok n)
   unfolding checked

@@ -21,8 +21,8 @@ use Rattle.reader.proofs.Below.{below_suc}
 use Rattle.reader.proofs.Lists.{length_tabulate, get_d_tabulate}
 use Rattle.reader.proofs.Climbing.{parent_is, parents_written, nested_if_clear}
 use Rattle.reader.proofs.First.{join_clear, join_holds, clear_left, writes, leaves_unchanged, same_first, none_or_some}
-use Rattle.reader.proofs.Refusals.{says_err}
-use Rattle.reader.proofs.Accepting.{ordered_if_clear, file_numbered, accepted_header, accepted_family, few_regions}
+use Rattle.reader.proofs.Refusals.{lacks_joined, says_err}
+use Rattle.reader.proofs.Accepting.{ordered_if_clear, file_numbered, file_lacks, accepted_header, accepted_family, few_regions}
 
 -- c is the number of the last of the first n regions that ends with the k-th one or later
 record Reaching (F : Family) (k n c : ℕ) : Type 0 where
@@ -114,10 +114,11 @@ module _ (s out : List ℕ) where
   parents_unwritten h = sym (leaves_unchanged (parents_causes s out) (λ z. h (sym (parents_file h) ∙ z)) _ out)
 
   pub parents_short : Accepted s → length out < region_count (family_of s) → ParentsAnswers s out (Err Room) × ParentsWrites s out out
+  unfolding parents_causes
   parents_short h l =
       let e : first_cause (parents_causes s out) ≡ 16 = parents_room h ∙ ap (λ (b : Bool). cond b 16 0) (lt-ltb (length out) (region_count (family_of s)) l) in
       let some : first_cause (parents_causes s out) ≡ 0 → ⊥ = λ z. omega arith in
-      (says_err sizes (parents_causes s out) _ Room (sym e) refl, sym (leaves_unchanged (parents_causes s out) some _ out))
+      (says_err sizes (parents_causes s out) _ Room (lacks_joined 13 (file_causes s) _ (file_lacks s) (omega arith)) (sym e), sym (leaves_unchanged (parents_causes s out) some _ out))
 
   pub parents_checked : (Accepted s → region_count (family_of s) ≤ length out) → answer (parents_causes s out) (counts (family_of s)) ≡ checked s
   unfolding checked

@@ -4,7 +4,7 @@ use Rattle.reader.specs.Family.{family_of}
 use Rattle.reader.specs.Causes.{first_cause, header_causes, listing_causes}
 use Rattle.reader.specs.Private.Climb.{Judged}
 use Rattle.reader.specs.Refusals.{verdict}
-use Rattle.reader.proofs.Refusals.{number_some, handed_on}
+use Rattle.reader.proofs.Refusals.{number_some, some_holds, handed_on}
 use Rattle.reader.proofs.Accepting.{file_listing, file_arrangement}
 use Rattle.reader.proofs.judge.Goals as goal
 
@@ -14,7 +14,7 @@ returns-in_err-check_listing c =
     let refusal = c.in_err-check_listing.field-0.0 in
     let first = c.in_err-check_listing.ensures in
     rw (handed_on c.from_residual.result refusal c.from_residual.ensures.1)
-    (record { tested = first ∙ sym (file_listing s (λ z. number_some refusal (first ∙ z))); parents = λ e. absurd (number_some refusal e) })
+    (record { tested = first ∙ sym (file_listing s (some_holds refusal _ first)); parents = λ e. absurd (number_some refusal e) })
 
 pub check_arrangement-requires : goal.check_arrangement-requires
 check_arrangement-requires c = record { in_bounds = c.requires; listed = sym c.in_ok-check_listing.ensures }

@@ -1,11 +1,11 @@
 -- The header, then the leaf lengths, then each region.
 use mathlib.Core.List.{◌++◌}
-use mathlib.Core.Path.{◌≡◌, sym, ap, ◌∙◌}
+use mathlib.Core.Path.{◌≡◌, sym, ◌∙◌}
 use Rattle.reader.specs.Family.{family_of, mark}
 use Rattle.reader.specs.Causes.{first_cause, header_causes, listing_causes}
-use Rattle.reader.specs.Refusals.{number_of, verdict}
-use Rattle.reader.proofs.First.{join_clear, join_holds}
-use Rattle.reader.proofs.Refusals.{number_some, handed_on}
+use Rattle.reader.specs.Refusals.{number_of}
+use Rattle.reader.proofs.First.{join_clear}
+use Rattle.reader.proofs.Refusals.{hands_on, first_of}
 use Rattle.reader.proofs.Judged.{listing_6, listing_7}
 use Rattle.reader.proofs.Accepting.{header_numbered, header_whole}
 use Rattle.reader.proofs.causes.check_listing.Goals as goal
@@ -25,9 +25,7 @@ returns-in_err-check_header c =
     let s = c.args.file.now in
     let refusal = c.in_err-check_header.field-0.0 in
     let first : number_of refusal ≡ first_cause (header_causes s) = c.in_err-check_header.ensures in
-    ap verdict (handed_on c.from_residual.result refusal c.from_residual.ensures.1)
-    ∙ first
-    ∙ sym (join_holds (header_causes s) (listing_causes (family_of s)) (λ z. number_some refusal (first ∙ z)))
+    hands_on c.from_residual.result refusal _ c.from_residual.ensures.1 (first_of refusal (header_causes s) first (listing_causes (family_of s)))
 
 pub bad_lengths-requires : goal.bad_lengths-requires
 bad_lengths-requires c =
