@@ -8,7 +8,7 @@ use Rattle.reader.proofs.Bools.{passes}
 use Rattle.reader.proofs.Parsed.{peptides_read, leaves_read, regions_read}
 use Rattle.reader.proofs.Judged.{peptides_counted, from_peptides_counted, leaves_counted, from_leaves_counted, regions_counted, from_regions_counted, layout_2, layout_3, layout_5}
 use Rattle.reader.proofs.causes.check_layout.Goals as goal
-use Rattle.reader.proofs.causes.check_layout.Goals.{Else-m-gt4096, Else-n-gt4096, Else-n-k}
+use Rattle.reader.proofs.causes.check_layout.Goals.{Else-m-gt4096, Else-n-gt4096, Else-n-k, then-m-eq0-via-then-m-eq0, then-m-eq0-via-else-m-eq0+then-m-gt4096, then-n-eq0-via-then-n-eq0, then-n-eq0-via-else-n-eq0+then-n-gt4096}
 
 no2 : (c : Else-m-gt4096) → cause2 (family_of c.args.file.now).peptides ≡ false
 no2 c = let s = c.args.file.now in from_peptides_counted (family_of s).peptides (omega (arith, peptides_read s)) (omega (arith, peptides_read s))
@@ -24,22 +24,22 @@ no4 c = let s = c.args.file.now in from_regions_counted (family_of s) (omega (ar
 pub returns-then-m-eq0 : goal.returns-then-m-eq0
 returns-then-m-eq0 c =
     let s = c.args.file.now in
-    sym (layout_2 _ s (passes _ (λ f. omega (arith, peptides_counted (family_of s).peptides f, peptides_read s))))
-
-pub returns-then-m-gt4096 : goal.returns-then-m-gt4096
-returns-then-m-gt4096 c =
-    let s = c.args.file.now in
-    sym (layout_2 _ s (passes _ (λ f. omega (arith, peptides_counted (family_of s).peptides f, peptides_read s))))
+    sym (layout_2 _ s (passes _ (λ f.
+    let k = peptides_counted (family_of s).peptides f in
+    elim c.then-m-eq0.branch [
+      | then-m-eq0-via-then-m-eq0 w ↦ omega (arith, k, w.if-m-eq0.true, peptides_read s)
+      | then-m-eq0-via-else-m-eq0+then-m-gt4096 w ↦ omega (arith, k, w.if-m-gt4096.true, peptides_read s)
+    ])))
 
 pub returns-then-n-eq0 : goal.returns-then-n-eq0
 returns-then-n-eq0 c =
     let s = c.args.file.now in
-    sym (layout_3 _ s (no2 (goal.at.returns-then-n-eq0 c).Else-m-gt4096) (passes _ (λ f. omega (arith, leaves_counted (family_of s) f, leaves_read s))))
-
-pub returns-then-n-gt4096 : goal.returns-then-n-gt4096
-returns-then-n-gt4096 c =
-    let s = c.args.file.now in
-    sym (layout_3 _ s (no2 (goal.at.returns-then-n-gt4096 c).Else-m-gt4096) (passes _ (λ f. omega (arith, leaves_counted (family_of s) f, leaves_read s))))
+    sym (layout_3 _ s (no2 (goal.at.returns-then-n-eq0 c).Else-m-gt4096) (passes _ (λ f.
+    let k = leaves_counted (family_of s) f in
+    elim c.then-n-eq0.branch [
+      | then-n-eq0-via-then-n-eq0 w ↦ omega (arith, k, w.if-n-eq0.true, leaves_read s)
+      | then-n-eq0-via-else-n-eq0+then-n-gt4096 w ↦ omega (arith, k, w.if-n-gt4096.true, leaves_read s)
+    ])))
 
 pub returns-then-n-k : goal.returns-then-n-k
 returns-then-n-k c =
