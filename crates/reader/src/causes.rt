@@ -11,6 +11,11 @@ use crate::family::{Region, added_lengths, leaf_count, peptide_count, region_cou
 use crate::refusal::Refusal;
 use crate::whole::WholeFile;
 
+// The most peptides and the most leaves that a family has.
+const MOST_PEPTIDES: u16 = 4096;
+
+const MOST_LEAVES: u16 = 4096;
+
 // Under 16 bytes, or another mark than that at the start.
 fn lacks_mark(file: &[u8], mark: &[u8; 4]) -> bool
     ensures { result ≡ cause1 mark.now file.now }
@@ -35,10 +40,10 @@ fn check_layout(file: &[u8], lengths_at: u16) -> Result<(), Refusal>
     let m = number_at(file, 4);
     let n = number_at(file, 6);
     let k = number_at(file, 8);
-    if m == 0 || 4096 < m {
+    if m == 0 || MOST_PEPTIDES < m {
         return Err(Refusal::PeptideCount);
     }
-    if n == 0 || 4096 < n {
+    if n == 0 || MOST_LEAVES < n {
         return Err(Refusal::LeafCount);
     }
     if 2 * n - 1 < k {

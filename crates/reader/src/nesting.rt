@@ -9,6 +9,9 @@ ghost use Rattle.reader.specs.Private.Climb.{Climbing, Climbed, ends_before, Fil
 use crate::family::{Leaf, region_count};
 use crate::whole::WholeFile;
 
+// The most regions that are around a region.
+const MOST_AROUND: u8 = 63;
+
 // The number of the innermost region before the k-th one that ends at its first leaf or later; 0 if there is none.
 fn climb(file: WholeFile, parents: &[u16; 8191], k: u16, first: Leaf) -> u16
     requires climbing { Climbing (family_of file.bytes.now) parents.now k }
@@ -72,7 +75,7 @@ pub(crate) fn too_deep(file: WholeFile, parents: &[u16; 8191]) -> bool
     let mut depths = [0u8; 8191];
     for k in 0..region_count(file.bytes) as usize {
         let depth = one_deeper(&depths, parents[k]);
-        if 63 < depth {
+        if MOST_AROUND < depth {
             return true;
         }
         depths[k] = depth;

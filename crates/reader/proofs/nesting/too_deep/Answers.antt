@@ -34,9 +34,9 @@ one_deeper-depth-requires c =
     let p = pre.known c.loop-k.k k in
     record { number_in_bounds = omega (arith, p.earlier, k, pre.few); by_index = λ i l. omega (arith, counted.depth i (omega (arith, p.earlier)), counted.shallow i (omega (arith, p.earlier))) }
 
-pub returns-then-depth-gt63 : goal.returns-then-depth-gt63
-returns-then-depth-gt63 c =
-    sym (too_deep _ _ (here (goal.at.returns-then-depth-gt63 c).In-loop-k) (omega (arith, depth-read (goal.at.returns-then-depth-gt63 c).After-one_deeper-depth, c.if-depth-gt63.true)))
+pub returns-then-depth-gt-MOST_AROUND : goal.returns-then-depth-gt-MOST_AROUND
+returns-then-depth-gt-MOST_AROUND c =
+    sym (too_deep _ _ (here (goal.at.returns-then-depth-gt-MOST_AROUND c).In-loop-k) (omega (arith, depth-read (goal.at.returns-then-depth-gt-MOST_AROUND c).After-one_deeper-depth, c.if-depth-gt-MOST_AROUND.true)))
 
 pub bounds-depths-k : goal.bounds-depths-k
 bounds-depths-k c = omega (arith, here (goal.at.bounds-depths-k c).In-loop-k, c.requires.few)
@@ -46,7 +46,7 @@ loop-k-preserved c =
     let pre = c.requires in
     let k = here (goal.at.loop-k-preserved c).In-loop-k in
     counted_more _ pre.ordered pre.nested c.loop-k.depths c.loop-k.k k c.loop-k.invariant _
-    (omega (arith, k, pre.few)) (depth-read (goal.at.loop-k-preserved c).After-one_deeper-depth) c.if-depth-gt63.false
+    (omega (arith, k, pre.few)) (depth-read (goal.at.loop-k-preserved c).After-one_deeper-depth) c.if-depth-gt-MOST_AROUND.false
 
 pub returns : goal.returns
 returns c =
