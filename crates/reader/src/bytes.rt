@@ -77,13 +77,10 @@ pub fn put_numbers(out: &mut [u8], at: usize, numbers: &[u16])
     ensures { out.new ≡ with_numbers out.old at numbers.now }
 {
     let end = out.len();
-    let mut place = at;
+    let mut place = at.min(end);
     for n in numbers {
-        if end <= place {
-            return;
-        }
         put_number(out, place, *n);
-        place += 2;
+        place = end.min(place + 2);
     }
 }
 
