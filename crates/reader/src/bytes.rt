@@ -77,10 +77,13 @@ pub fn put_numbers(out: &mut [u8], at: usize, numbers: &[u16])
     ensures { out.new ≡ with_numbers out.old at numbers.now }
 {
     let end = out.len();
-    let mut place = at.min(end);
+    let mut place = at;
     for n in numbers {
+        if end <= place {
+            return;
+        }
         put_number(out, place, *n);
-        place = end.min(place + 2);
+        place += 2;
     }
 }
 
