@@ -99,7 +99,7 @@ pub fn bound_list(
             tally,
         };
     }
-    write_bounds(file, selections, count, values);
+    write_bounds(file, selections, &mut values[..count as usize]);
     let charge = charge_of(region_count(file), count);
     let tally = tally + (charge as u32);
     Listed {

@@ -62,21 +62,16 @@ pub(crate) fn list_cause(file: &[u8], selections: &[u8], count: u16, tally: u32,
     }
 }
 
-// Writes the bound of each selection. The inside totals of one selection are room for those of the next.
-pub(crate) fn write_bounds(file: &[u8], selections: &[u8], count: u16, values: &mut [u16])
+// Writes the bound of each selection, one for each place lent. The inside totals of one selection are room for those of the next.
+pub(crate) fn write_bounds(file: &[u8], selections: &[u8], values: &mut [u16])
     requires well_formed { WellFormed (family_of file.now) }
-    requires selections_len { length selections.now ≡ count * (family_of file.now).peptides }
-    requires count_in_bounds { count ≤ length values.old }
-    ensures { values.new ≡ list_bounds (family_of file.now) selections.now count ++ drop count values.old }
+    requires whole { length selections.now ≡ length values.old * (family_of file.now).peptides }
+    ensures { values.new ≡ list_bounds (family_of file.now) selections.now (length values.old) }
 {
     let m = peptide_count(file) as usize;
     let mut totals = [0u16; 8191];
-    let mut i = 0;
-    let mut start = 0;
-    while i < count {
-        let end = start + m;
-        values[i as usize] = line_value(file, &selections[start..end], &mut totals);
-        i += 1;
-        start = end;
+    for (i, value) in values.iter_mut().enumerate() {
+        let start = i * m;
+        *value = line_value(file, &selections[start..start + m], &mut totals);
     }
 }

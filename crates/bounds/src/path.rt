@@ -1,6 +1,6 @@
 // Whether a family and a path are accepted: causes 1 to 10, then 11, 12 and 13, each over the whole path.
-ghost use Rattle.std.specs.Prelude.{◌≡◌, ℕ, ◌<◌, ◌≤◌, length, get_or};
-ghost use Rattle.bounds.specs.Curves.{cause12, first_repeat};
+ghost use Rattle.std.specs.Prelude.{◌≡◌, ℕ, false, ◌<◌, ◌≤◌, length, get_or, MatchOption};
+ghost use Rattle.bounds.specs.Curves.{cause12, cause13, first_repeat};
 ghost use Rattle.bounds.specs.Private.Walks.{number_cause, Admission};
 
 use reader::Checked;
@@ -18,18 +18,8 @@ pub(crate) enum Admitted {
 fn off_the_line(path: &[u16], peptides: u16) -> bool
     ensures { result ≡ cause12 peptides path.now }
 {
-    let mut i = 0;
-    while i < path.len() {
-        let number = path[i];
-        if number == 0 {
-            return true;
-        }
-        if peptides < number {
-            return true;
-        }
-        i += 1;
-    }
-    false
+    path.iter()
+        .any(|number| *number == 0 || peptides < *number)
 }
 
 // The first of the causes 11 and 12 that holds, or 0.
@@ -42,28 +32,25 @@ fn number_cause(path: &[u16], peptides: u16) -> u16
     if off_the_line(path, peptides) { 12 } else { 0 }
 }
 
-// The first place, counted from 1, whose peptide stands earlier too; 0 if all are different.
-fn first_repeat(path: &[u16]) -> u16
-    requires path_len_bound { length path.now ≤ 4096 }
-    requires by_index { (i : ℕ) → i < length path.now → get_or path.now i 0 ≤ 4096 }
-    ensures { result ≡ first_repeat path.now }
+// The first place, counted from 1, whose peptide stands earlier too.
+fn first_repeat(path: &[u16]) -> Option<u16>
+    requires short { length path.now ≤ 4096 }
+    requires numbers { (i : ℕ) → i < length path.now → get_or path.now i 0 ≤ 4096 }
+    ensures { MatchOption result (cause13 path.now ≡ false) (λ place. (1 ≤ place) × (first_repeat path.now ≡ place)) }
 {
-    let mut seen = [0u8; 4097];
-    let mut i = 0;
-    while i < path.len() {
-        let number = path[i] as usize;
-        if seen[number] != 0 {
-            return (i + 1) as u16;
+    let mut seen = [false; 4097];
+    for (i, number) in path.iter().enumerate() {
+        let peptide = *number as usize;
+        if seen[peptide] {
+            return Some((i + 1) as u16);
         }
-        seen[number] = 1;
-        i += 1;
+        seen[peptide] = true;
     }
-    0
+    None
 }
 
 // Tries the causes 1 to 13 in turn; where none holds, the parents of the regions are written.
-pub(crate) fn admit(file: &[u8], path: &[u16], parents: &mut [u16]) -> Admitted
-    requires { 8191 ≤ length parents.old }
+pub(crate) fn admit(file: &[u8], path: &[u16], parents: &mut [u16; 8191]) -> Admitted
     ensures { Admission file.now path.now parents.new result }
 {
     match reader::parents(file, parents) {
@@ -76,11 +63,10 @@ pub(crate) fn admit(file: &[u8], path: &[u16], parents: &mut [u16]) -> Admitted
             if number != 0 {
                 return Admitted::Refused(number);
             }
-            let place = first_repeat(path);
-            if place != 0 {
-                return Admitted::Repeated(place);
+            match first_repeat(path) {
+                Some(place) => Admitted::Repeated(place),
+                None => Admitted::Yes,
             }
-            Admitted::Yes
         }
         Checked::Refused(number) => Admitted::Refused(number),
     }

@@ -16,21 +16,10 @@ pub(crate) fn bad_selection(selection: &[u8], whole: usize) -> bool
         return true;
     }
     let mut over = false;
-    let mut i = 0;
-    while i < selection.len() {
-        over |= 1 < selection[i];
-        i += 1;
+    for byte in selection {
+        over |= 1 < *byte;
     }
     over
-}
-
-// 1 if the peptide after the one named is selected, else 0.
-fn bit_after(selection: &[u8], passed: Peptide) -> u16
-    requires { passed.0 < length selection.now }
-    ensures { result ≡ cond (selected selection.now (suc passed.0)) 1 0 }
-{
-    let i = passed.0 as usize;
-    if selection[i] == 1 { 1 } else { 0 }
 }
 
 // How many peptides after the first one named, and up to the second, are selected.
@@ -38,12 +27,11 @@ pub(crate) fn selected_between(selection: &[u8], after: Peptide, upto: Peptide) 
     requires { (after.0 ≤ upto.0) × (upto.0 ≤ length selection.now) }
     ensures { result + card after.0 (selected selection.now) ≡ card upto.0 (selected selection.now) }
 {
-    let end = upto.0;
-    let mut i = after.0;
     let mut count = 0;
-    while i < end {
-        count += bit_after(selection, Peptide(i));
-        i += 1;
+    for byte in &selection[after.0 as usize..upto.0 as usize] {
+        if *byte == 1 {
+            count += 1;
+        }
     }
     count
 }

@@ -23,7 +23,7 @@ use Rattle.reader.proofs.Accepting.{well_formed_lem, accepted_header, few_region
 use Rattle.bounds.specs.Curves.{cause11, cause12, repeated, cause13, first_repeat}
 use Rattle.bounds.specs.Calls.{path_causes, IsPath, input_causes, path_refusal}
 use Rattle.bounds.specs.Private.Walks.{number_cause, Walkable, Distinct, InputRefused}
-use Rattle.bounds.proofs.Basics.Members.{test, clash, or_r, bit}
+use Rattle.bounds.proofs.Basics.Members.{test, clash, or_r}
 
 -- The first number that passes a test.
 
@@ -62,11 +62,11 @@ first_zero n p h = ⊎_elim (λ t. let f = first_found n p t in absurd (omega (a
 abbrev pub stands : List ℕ → ℕ → ℕ → Bool
 stands path t q = some_below t (λ i. eqb (get_or path i 0) q)
 
--- the list has 1 for each peptide that stands at one of the first t places, else 0
-abbrev pub Seen : List ℕ → ℕ → List ℕ → Type 0
-Seen path t S = (q : ℕ) → q < 4097 → get_or S q 0 ≡ bit (stands path t q)
+-- the list says of each peptide whether it stands at one of the first t places
+abbrev pub Seen : List ℕ → ℕ → List Bool → Type 0
+Seen path t S = (q : ℕ) → q < 4097 → get_or S q false ≡ stands path t q
 
-pub seen_none : (path S : List ℕ) → ((q : ℕ) → q < 4097 → get_or S q 0 ≡ 0) → Seen path 0 S
+pub seen_none : (path : List ℕ) (S : List Bool) → ((q : ℕ) → q < 4097 → get_or S q false ≡ false) → Seen path 0 S
 unfolding some_below
 seen_none path S h q l = h q l
 
@@ -74,12 +74,13 @@ pub or_false : (b : Bool) → (b || false) ≡ b
 or_false true = refl
 or_false false = refl
 
-pub seen_more : (path S : List ℕ) (t p : ℕ) → length S ≡ 4097 → Seen path t S → p ≡ get_or path t 0 → p < 4097 → Seen path (t + 1) (set S p 1)
+pub seen_more : (path : List ℕ) (S : List Bool) (t p : ℕ) → length S ≡ 4097 → Seen path t S → p ≡ get_or path t 0 → p < 4097
+    → Seen path (t + 1) (set S p true)
 unfolding some_below
 seen_more path S t p len seen e fits q l =
     ⊎_elim
-    (λ same. rw (add-one, ← e, same, eq-eqb p p refl, get_or-set_same S p 1 0 (omega arith)) (sym (ap bit (or_r (stands path t p) true refl))))
-    (λ other. rw (add-one, ← e, ne_eqb p q (λ d. eqb-false q p other (sym d)), get_or-set_other S p q 1 0 (eqb-false q p other)) (seen q l ∙ sym (ap bit (or_false (stands path t q)))))
+    (λ same. rw (add-one, ← e, same, eq-eqb p p refl, get_or-set_same S p true false (omega arith)) (sym (or_r (stands path t p) true refl)))
+    (λ other. rw (add-one, ← e, ne_eqb p q (λ d. eqb-false q p other (sym d)), get_or-set_other S p q true false (eqb-false q p other)) (seen q l ∙ sym (or_false (stands path t q))))
     (is q p)
   where
     is : (q p : ℕ) → (q ≡ p) ⊎ (eqb q p ≡ false)
@@ -90,14 +91,6 @@ pub repeated_seen : (path : List ℕ) (t : ℕ) → repeated path (t + 1) ≡ st
 unfolding repeated
 repeated_seen path t = let back : t + 1 - 1 ≡ t = omega arith in rw back
 
-pub bit_some : (b : Bool) → (bit b ≡ 0 → ⊥) → b ≡ true
-bit_some true h = refl
-bit_some false h = absurd (h refl)
-
-pub bit_none : (b : Bool) → bit b ≡ 0 → b ≡ false
-bit_none true h = absurd (omega arith)
-bit_none false h = refl
-
 -- The first repeat.
 
 module _ (path : List ℕ) where
@@ -105,9 +98,9 @@ module _ (path : List ℕ) where
   unfolding first_repeat
   repeat_at_lem t l here before = rw add-one (sym (first_at_lem (λ i. repeated path (i + 1)) (length path) t l here before))
 
-  pub repeat_none : ((i : ℕ) → i < length path → repeated path (i + 1) ≡ false) → 0 ≡ first_repeat path
-  unfolding first_repeat
-  repeat_none h = sym (first_none (λ i. repeated path (i + 1)) (length path) (none_below (λ i. repeated path (i + 1)) (length path) h))
+  pub repeat_none : ((i : ℕ) → i < length path → repeated path (i + 1) ≡ false) → cause13 path ≡ false
+  unfolding cause13
+  repeat_none h = none_below (λ i. repeated path (i + 1)) (length path) h
 
   pub all_different : first_repeat path ≡ 0 → cause13 path ≡ false
   unfolding first_repeat cause13

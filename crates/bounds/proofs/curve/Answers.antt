@@ -30,13 +30,9 @@ returns-then-marks-path c =
     let done = curve_short c.args.file.now c.args.path.now c.args.values.now c.args.marks.now (admitted (goal.at.returns-then-marks-path c).In-Yes).0 (or_r (short (length a.path.now + 1) (length a.values.now)) _ (lt-ltb (length a.marks.now) (length a.path.now) c.if-marks-path.true)) in
     record { curve_answers = done.0; curve_values_writes = done.1.0; curve_marks_writes = done.1.1.0; curve_declines = done.1.1.1 }
 
-pub slice_bounds-write_curve-end : goal.slice_bounds-write_curve-end
-slice_bounds-write_curve-end c =
-    sym c.admit.auto.parents
-
 pub write_curve-requires : goal.write_curve-requires
 write_curve-requires c =
-    record { walkable = (admitted (goal.at.write_curve-requires c).In-Yes).1; path_in_bounds = omega (arith, c.if-values-path.false); path_in_bounds_2 = c.if-marks-path.false }
+    record { walkable = (admitted (goal.at.write_curve-requires c).In-Yes).1; values_room = omega (arith, c.if-values-path.false); marks_room = c.if-marks-path.false }
 
 pub returns-else-marks-path : goal.returns-else-marks-path
 unfolding report_curve declined_curve short

@@ -24,10 +24,6 @@ unfolding report_cut cause15
 returns-then-b-a c =
     cut_no_fraction _ _ _ _ (admitted (goal.at.returns-then-b-a c).In-Yes).0 (or_r (eqb c.args.b 0) _ (lt-ltb c.args.b c.args.a c.if-b-a.true))
 
-pub slice_bounds-find_cut-end : goal.slice_bounds-find_cut-end
-slice_bounds-find_cut-end c =
-    sym c.admit.auto.parents
-
 pub find_cut-requires : goal.find_cut-requires
 find_cut-requires c =
     (admitted (goal.at.find_cut-requires c).In-Yes).1

@@ -85,8 +85,7 @@ unfoldable pub marks_up_to : List ℕ → ℕ → ℕ
 marks_up_to M zero = 0
 marks_up_to M (suc t) = marks_up_to M t + get_or M t 0
 
--- the list begins with the marks at so many places
-pub record MarksOf (places : ℕ) (M : List ℕ) : Type 0 where
-  pub room : places ≤ length M
-  pub few : places ≤ 4096
-  pub small : (t : ℕ) → t < places → get_or M t 0 ≤ 1
+-- the list is the marks of a curve
+pub record MarksOf (M : List ℕ) : Type 0 where
+  pub few : length M ≤ 4096
+  pub small : (t : ℕ) → t < length M → get_or M t 0 ≤ 1

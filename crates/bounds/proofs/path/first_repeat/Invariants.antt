@@ -1,5 +1,5 @@
--- The loop has seen the first i peptides, and none of them twice.
-use Prim.Native.Nat.{ℕ, ◌+◌, ◌≤◌, ◌<◌, ◌-◌}
+-- The loop has seen the peptides before this one, and none of them twice.
+use Prim.Native.Nat.{ℕ, ◌+◌, ◌<◌}
 use mathlib.Core.Bool.{false}
 use mathlib.Core.Path.{◌≡◌}
 use lib.ListN.{length}
@@ -8,7 +8,8 @@ use Rattle.bounds.proofs.Calls.PathLaws.{Seen}
 use Rattle.bounds.proofs.path.first_repeat.Given as goal
 
 abbrev pub invariant-loop-i : goal.invariant-loop-i
-invariant-loop-i l = (l.i ≤ length l.path) × (length l.seen ≡ 4097) × Seen l.path l.i l.seen × ((k : ℕ) → k < l.i → repeated l.path (k + 1) ≡ false)
-
-abbrev pub decreases-loop-i : goal.decreases-loop-i
-decreases-loop-i l = length l.path - l.i
+invariant-loop-i l = record {
+  whole : length l.seen ≡ 4097;
+  found : Seen l.path l.i l.seen;
+  different : (k : ℕ) → k < l.i → repeated l.path (k + 1) ≡ false;
+}
