@@ -18,8 +18,7 @@ pub(crate) enum Admitted {
 fn off_the_line(path: &[u16], peptides: u16) -> bool
     ensures { result ≡ cause12 peptides path.now }
 {
-    path.iter()
-        .any(|number| *number == 0 || peptides < *number)
+    path.iter().any(|number| *number == 0 || peptides < *number)
 }
 
 // The first of the causes 11 and 12 that holds, or 0.

@@ -55,7 +55,8 @@ pub(crate) fn selection_cause(file: &[u8], selection: &[u8], room: usize) -> u16
     }
 }
 
-// The same, of `bound`. It is not made a part of that call, whose totals then need no stack beside the arrays of the check.
+// The same, of `bound`. It is not made a part of that call, whose totals then need no stack beside the arrays of the check. One function
+// for both, called by `inside_totals` too, lets `phf_reduce` need 8 KB more than the header states.
 #[inline(never)]
 pub(crate) fn bound_cause(file: &[u8], selection: &[u8], room: usize) -> u16
     ensures { result ≡ first_cause (causes_with_room file.now selection.now room) }

@@ -11,7 +11,6 @@ use lib.ListN.{length, get_or, take}
 use lib.Seq.{take_at}
 use lib.Dec.{leb, eqb}
 use borrow.Author.Tests.{eqb-true, eq-eqb}
-use Rattle.reader.specs.Lists.{tabulate}
 use Rattle.reader.specs.Family.{Family, leaves, region_count, region, leaf_of}
 use Rattle.reader.specs.WellFormed.{WellFormed}
 use Rattle.reader.proofs.Below.{some_at, found}

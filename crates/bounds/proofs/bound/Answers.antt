@@ -1,15 +1,11 @@
 -- Where no cause holds, the bound and the taken bytes are those that are owed.
-use Prim.Native.Nat.{ℕ}
 use native.Mathlib.Omega.{arith}
-use mathlib.Core.List.{List, ◌++◌}
-use mathlib.Core.Path.{◌≡◌, sym, ap, ◌∙◌}
-use lib.ListN.{length, drop}
-use Rattle.reader.specs.Family.{family_of, region_count}
+use mathlib.Core.Path.{◌≡◌, sym, ◌∙◌}
+use lib.ListN.{length}
+use Rattle.reader.specs.Family.{family_of}
 use Rattle.reader.specs.Causes.{first_cause}
-use Rattle.reader.proofs.Accepting.{accepted_header, few_regions}
-use Rattle.bounds.specs.Private.Rows.{Ready}
 use Rattle.bounds.specs.Calls.{causes_with_room}
-use Rattle.bounds.proofs.Summing.TakenBytes.{taken_along_lem, taken_length}
+use Rattle.bounds.proofs.Summing.TakenBytes.{taken_length}
 use Rattle.bounds.proofs.Calls.SelectionCalls.{none_holds, none_ready, refuses, unchanged, gives_bound, writes_all}
 use Rattle.bounds.proofs.bound.Goals as goal
 use Rattle.bounds.proofs.bound.Goals.{Else-cause-ne0}

@@ -1,7 +1,6 @@
 -- The causes of the family and the path first, then the room in the lent slices; then the walk writes.
 use Prim.Native.Nat.{◌+◌}
 use native.Mathlib.Omega.{arith}
-use mathlib.Core.Path.{sym}
 use lib.ListN.{length}
 use borrow.Author.Tests.{lt-ltb, le-ltb}
 use Rattle.reader.proofs.Bools.{or_l, or_r, or_neither}

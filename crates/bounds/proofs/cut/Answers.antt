@@ -1,5 +1,4 @@
 -- The causes of the family and the path first, then the fraction; then the walk finds the cut.
-use mathlib.Core.Path.{sym}
 use lib.Dec.{eqb, ltb}
 use borrow.Author.Tests.{eq-eqb, ne_eqb, lt-ltb, le-ltb}
 use Rattle.reader.proofs.Bools.{or_l, or_r, or_neither}

@@ -1,12 +1,11 @@
 -- The entries are what the marks add up to, so the largest t that passes is the cut.
 use Prim.Native.Nat.{ℕ, ◌*◌}
 use native.Mathlib.Omega.{arith}
-use mathlib.Core.List.{List}
 use mathlib.Core.Path.{◌≡◌, sym, ap, ◌∙◌}
 use lib.ListN.{length, take, length-replicate}
 use lib.Dec.{leb}
 use Rattle.reader.specs.Family.{family_of}
-use Rattle.bounds.specs.Curves.{entry, curve_marks, largest_up_to, cut_of}
+use Rattle.bounds.specs.Curves.{entry, curve_marks, cut_of}
 use Rattle.bounds.specs.Private.Walks.{marks_up_to}
 use Rattle.bounds.proofs.Walking.Steps.{entries_marked, marks_of, marks_many, marks_written, largest_same}
 use Rattle.bounds.proofs.entries.find_cut.Goals as goal

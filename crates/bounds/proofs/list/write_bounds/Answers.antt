@@ -3,14 +3,11 @@ use native.Mathlib.Omega.{arith}
 use mathlib.Core.List.{List, [], append-nil}
 use mathlib.Core.Path.{◌≡◌, refl, sym, ap, ◌∙◌}
 use lib.ListN.{length, take, drop, set, length-replicate, drop_of_length-le}
-use Rattle.reader.specs.Lists.{tabulate}
 use Rattle.reader.specs.Family.{Family, family_of}
 use Rattle.reader.proofs.Lists.{write_none, write_more}
 use Rattle.bounds.specs.Selections.{bound_of}
 use Rattle.bounds.specs.SelectionLists.{selection_at, list_bounds}
-use Rattle.bounds.proofs.Walking.Steps.{product_fits}
 use Rattle.bounds.proofs.Calls.ListLaws.{selection_ends, selection_part, selection_whole}
-use borrow.Author.Rules.{rules}
 use Rattle.bounds.proofs.list.write_bounds.Goals as goal
 use Rattle.bounds.proofs.list.write_bounds.Goals.{In-loop-i}
 use Rattle.bounds.proofs.list.write_bounds.Invariants.{bound_at}

@@ -44,11 +44,11 @@ pub loop-byte-preserved : goal.loop-byte-preserved
 loop-byte-preserved c =
     let i = c.loop-byte.byte-index in
     elim c.if-byte-eq1.branch [
-      then-byte-eq1 w ↦ record {
+      | then-byte-eq1 w ↦ record {
         few = omega arith;
         counted = rw w.count-is (counted c.args.selection.now c.args.after.0 c.args.upto.0 c.requires i c.loop-byte.count 1 c.loop-byte-test.true (sym (ap bit (eq-eqb _ 1 w.if-byte-eq1.true))) c.loop-byte.invariant.counted);
       }
-    | else-byte-eq1 w ↦ record {
+      | else-byte-eq1 w ↦ record {
         few = omega arith;
         counted = omega (arith, counted c.args.selection.now c.args.after.0 c.args.upto.0 c.requires i c.loop-byte.count 0 c.loop-byte-test.true (sym (ap bit (ne_eqb _ 1 w.if-byte-eq1.false))) c.loop-byte.invariant.counted);
       }
