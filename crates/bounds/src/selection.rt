@@ -2,11 +2,13 @@
 ghost use Rattle.std.specs.Prelude.{cond, ◌≡◌, suc, ◌+◌, ◌<◌, ◌≤◌, length};
 ghost use Rattle.bounds.specs.Ranges.{card};
 ghost use Rattle.reader.specs.Causes.{first_cause};
+ghost use Rattle.reader.specs.Refusals.{verdict};
 ghost use Rattle.bounds.specs.Selections.{selected, cause14};
 ghost use Rattle.bounds.specs.Calls.{causes_with_room};
 
+use reader::check;
 use reader::family::Peptide;
-use reader::{Checked, check};
+use reader::refusal::Refusal;
 
 // Not that many bytes, or a byte over 1. The loop is not left early, so that the compiler can judge several bytes at once.
 pub(crate) fn bad_selection(selection: &[u8], whole: usize) -> bool
@@ -36,30 +38,25 @@ pub(crate) fn selected_between(selection: &[u8], after: Peptide, upto: Peptide) 
     count
 }
 
-// The first cause of a call with a selection and an output of so many places, or 0.
-pub(crate) fn selection_cause(file: &[u8], selection: &[u8], room: usize) -> u16
-    ensures { result ≡ first_cause (causes_with_room file.now selection.now room) }
+// Declines by the first cause of a call with a selection and an output of so many places.
+pub(crate) fn check_selection(file: &[u8], selection: &[u8], room: usize) -> Result<(), Refusal>
+    ensures { verdict result ≡ first_cause (causes_with_room file.now selection.now room) }
 {
-    match check(file) {
-        Checked::Family {
-            peptides,
-            leaves: _,
-            regions,
-        } => {
-            if bad_selection(selection, peptides as usize) {
-                return 14;
-            }
-            if room < regions as usize { 16 } else { 0 }
-        }
-        Checked::Refused(number) => number,
+    let sizes = check(file)?;
+    if bad_selection(selection, sizes.peptides as usize) {
+        return Err(Refusal::Selection);
     }
+    if room < sizes.regions as usize {
+        return Err(Refusal::Room);
+    }
+    Ok(())
 }
 
 // The same, of `bound`. It is not made a part of that call, whose totals then need no stack beside the arrays of the check. One function
 // for both, called by `inside_totals` too, lets `phf_reduce` need 8 KB more than the header states.
 #[inline(never)]
-pub(crate) fn bound_cause(file: &[u8], selection: &[u8], room: usize) -> u16
-    ensures { result ≡ first_cause (causes_with_room file.now selection.now room) }
+pub(crate) fn check_bound(file: &[u8], selection: &[u8], room: usize) -> Result<(), Refusal>
+    ensures { verdict result ≡ first_cause (causes_with_room file.now selection.now room) }
 {
-    selection_cause(file, selection, room)
+    check_selection(file, selection, room)
 }

@@ -10,6 +10,9 @@ use lib.ListN.{length, get_or, set}
 use lib.Seq.{get_or-set_same, get_or-set_other}
 use lib.Dec.{eqb, ltb}
 use borrow.Author.Tests.{ltb-false, eqb-true, eqb-false, eq-eqb, ne_eqb}
+use Rattle.std.specs.Prelude.{Result, Ok, Err}
+use Rattle.reader.specs.declared.refusal.Refusal.{Refusal}
+use Rattle.reader.specs.Refusals.{number_of, beside}
 use Rattle.reader.specs.Lists.{some_below, first_below}
 use Rattle.reader.specs.Bytes.{IsBytes}
 use Rattle.reader.specs.Family.{Family, family_of, region_count}
@@ -19,10 +22,11 @@ use Rattle.reader.proofs.Bools.{or_fails_l, or_fails_r}
 use Rattle.reader.proofs.Below.{none_at, none_below, first_at_lem, first_none}
 use Rattle.reader.proofs.First.{Numbered, head_clear, join_clear, join_holds, clear_left, clear_right}
 use Rattle.reader.proofs.Judged.{peptides_counted}
+use Rattle.reader.proofs.Refusals.{nothing_beside, some_holds}
 use Rattle.reader.proofs.Accepting.{well_formed_lem, accepted_header, few_regions, file_numbered}
 use Rattle.bounds.specs.Curves.{cause11, cause12, repeated, cause13, first_repeat}
 use Rattle.bounds.specs.Calls.{path_causes, IsPath, input_causes, path_refusal}
-use Rattle.bounds.specs.Private.Walks.{number_cause, Walkable, Distinct, InputRefused}
+use Rattle.bounds.specs.Private.Walks.{number_cause, Walkable, Distinct, InputRefused, Admission, Differing}
 use Rattle.bounds.proofs.Basics.Members.{test, clash, or_r}
 
 -- The first number that passes a test.
@@ -222,13 +226,21 @@ module _ (s path : List ℕ) where
       omega (arith, path_most (family_of s).peptides path k.1, (peptides_counted (family_of s).peptides (accepted_header s k.0).no2).1)
 
   -- the refusal with a number other than 13, and with 13
-  pub input_refused : (n : ℕ) → n ≡ first_cause (input_causes s path) → (n ≡ 0 → ⊥) → (n ≡ 13 → ⊥) → InputRefused s path (record { number = n; values = [] })
+  bare : (n : ℕ) → (n ≡ 13 → ⊥) → record { number = n; values = [] } ≡ path_refusal path n
   unfolding path_refusal
-  input_refused n e some other = record { some = λ z. some (e ∙ z); told = rw (← e, ne_eqb n 13 other) }
+  bare n other = rw (ne_eqb n 13 other)
 
-  pub input_repeats : (p : ℕ) → first_cause (input_causes s path) ≡ 13 → p ≡ first_repeat path → InputRefused s path (record { number = 13; values = p ∷ [] })
+  pub input_refused : (e : Refusal) → number_of e ≡ first_cause (input_causes s path) → (number_of e ≡ 13 → ⊥)
+      → InputRefused s path (record { number = number_of e; values = beside e })
+  input_refused e h other =
+      record {
+        some = some_holds e _ h;
+        told = ap (λ (l : List ℕ). record { number = number_of e; values = l }) (nothing_beside e other) ∙ bare (number_of e) other ∙ ap (path_refusal path) h;
+      }
+
+  pub input_repeats : first_cause (input_causes s path) ≡ 13 → InputRefused s path (record { number = 13; values = first_repeat path ∷ [] })
   unfolding path_refusal
-  input_repeats p e h = record { some = λ z. omega arith; told = rw (e, h) }
+  input_repeats e = record { some = λ z. omega arith; told = rw e }
 
   -- what a walk goes by
   pub walkable :
@@ -243,3 +255,9 @@ module _ (s path : List ℕ) where
         short = path_short F.peptides path n;
         different = is_path F.peptides path n d;
       }
+
+  -- the answer, by what is found of the repeats where nothing else declines
+  pub by_repeats : (P : List ℕ) (r : Result (Unit {0}) Refusal) → Accepted s → number_cause (family_of s).peptides path ≡ 0
+      → (cause13 path ≡ false → Walkable (family_of s) path P) → Differing path r → Admission s path P r
+  by_repeats P (Ok done) a n walk d = (input_path a ∙ path_none (family_of s).peptides path n d, walk d)
+  by_repeats P (Err e) a n walk d = rw d.1 (input_repeats (input_path a ∙ path_13 (family_of s).peptides path n d.0))

@@ -1,15 +1,15 @@
 -- What the private functions that check a path and walk along it promise each other.
-use Rattle.std.specs.Prelude.{ℕ, zero, suc, ◌+◌, ◌-◌, ◌<◌, ◌≤◌, Bool, false, cond, ◌&&◌, List, [], ◌∷◌, ◌≡◌, length, get_or, eqb}
+use Rattle.std.specs.Prelude.{ℕ, zero, suc, ◌+◌, ◌-◌, ◌<◌, ◌≤◌, Bool, true, false, cond, ◌&&◌, List, ◌≡◌, length, get_or, eqb, Result, Ok, Err}
 use Rattle.reader.specs.Lists.{some_below}
 use Rattle.reader.specs.Family.{Family, family_of, region_count, leaf_of}
 use Rattle.reader.specs.Causes.{first_cause}
-use Rattle.reader.specs.Calls.{Report}
+use Rattle.reader.specs.Refusals.{number_of, beside, Report}
+use Rattle.reader.specs.declared.refusal.Refusal.{Refusal}
 use Rattle.reader.specs.WellFormed.{WellFormed, Nested}
-use Rattle.bounds.specs.Curves.{cause11, cause12}
+use Rattle.reader.specs.declared.refusal.Refusal.TheVariants.{Repeated}
+use Rattle.bounds.specs.Curves.{cause11, cause12, cause13, first_repeat}
 use Rattle.bounds.specs.Calls.{input_causes, path_refusal}
 use Rattle.bounds.specs.Holding.{is_between, holds_leaf, LastHolding}
-use Rattle.bounds.specs.declared.path.Admitted.{Admitted}
-use Rattle.bounds.specs.declared.path.Admitted.TheVariants.{Yes, Refused, Repeated}
 
 -- The path.
 
@@ -36,10 +36,14 @@ pub record InputRefused (file path : List ℕ) (r : Report) : Type 0 where
   pub told : r ≡ path_refusal path (first_cause (input_causes file path))
 
 -- a family and a path are accepted, or refused
-abbrev pub Admission : List ℕ → List ℕ → List ℕ → Admitted → Type 0
-Admission file path P Yes = (first_cause (input_causes file path) ≡ 0) × Walkable (family_of file) path P
-Admission file path P (Refused n) = InputRefused file path (record { number = n; values = [] })
-Admission file path P (Repeated p) = InputRefused file path (record { number = 13; values = p ∷ [] })
+abbrev pub Admission : List ℕ → List ℕ → List ℕ → Result (Unit {0}) Refusal → Type 0
+Admission file path P (Ok done) = (first_cause (input_causes file path) ≡ 0) × Walkable (family_of file) path P
+Admission file path P (Err e) = InputRefused file path (record { number = number_of e; values = beside e })
+
+-- the peptides of a path are different, or refused with the first place whose peptide stands earlier too
+abbrev pub Differing : List ℕ → Result (Unit {0}) Refusal → Type 0
+Differing path (Ok done) = cause13 path ≡ false
+Differing path (Err e) = (cause13 path ≡ true) × (e ≡ Repeated (first_repeat path))
 
 -- The regions that hold a leaf.
 

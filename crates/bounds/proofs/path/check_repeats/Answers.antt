@@ -1,13 +1,15 @@
-use Prim.Native.Nat.{◌≤◌, ◌<◌}
+use Prim.Native.Nat.{◌+◌, ◌≤◌, ◌<◌}
 use native.Mathlib.Omega.{arith}
 use native.Mathlib.Nat.{eq-or-lt_of_le}
 use mathlib.Core.Bool.{false}
 use mathlib.Core.Logic.{⊎_elim}
-use mathlib.Core.Path.{refl, sym, ◌∙◌}
+use mathlib.Core.Path.{◌≡◌, refl, sym, ap, ◌∙◌}
 use lib.ListN.{get_or, length-set, length-replicate, replicate, get_or-replicate}
-use Rattle.bounds.proofs.Calls.PathLaws.{seen_none, seen_more, repeated_seen, repeat_at_lem, repeat_none}
-use Rattle.bounds.proofs.path.first_repeat.Goals as goal
-use Rattle.bounds.proofs.path.first_repeat.Goals.{In-loop-i}
+use Rattle.reader.specs.declared.refusal.Refusal.TheVariants.{Repeated}
+use Rattle.bounds.specs.Curves.{first_repeat}
+use Rattle.bounds.proofs.Calls.PathLaws.{seen_none, seen_more, repeated_seen, repeat_at_lem, repeat_none, repeat_holds}
+use Rattle.bounds.proofs.path.check_repeats.Goals as goal
+use Rattle.bounds.proofs.path.check_repeats.Goals.{In-loop-i}
 
 -- the peptide has a place in the array
 fits : (c : In-loop-i) → get_or c.args.path.now c.loop-i.i 0 < 4097
@@ -38,7 +40,8 @@ returns-then-seen-peptide c =
     let path = c.args.path.now in
     let i = c.loop-i.i in
     let inv = c.loop-i.invariant in
-    (omega arith, sym (repeat_at_lem path i c.loop-i-test.true (repeated_seen path i ∙ sym (inv.found (get_or path i 0) (fits (goal.at.returns-then-seen-peptide c).In-loop-i)) ∙ c.if-seen-peptide.true) inv.different))
+    let here : i + 1 ≡ first_repeat path = repeat_at_lem path i c.loop-i-test.true (repeated_seen path i ∙ sym (inv.found (get_or path i 0) (fits (goal.at.returns-then-seen-peptide c).In-loop-i)) ∙ c.if-seen-peptide.true) inv.different in
+    (repeat_holds path (λ z. omega arith), ap Repeated here)
 
 pub bounds-seen-peptide-in-loop-i : goal.bounds-seen-peptide-in-loop-i
 bounds-seen-peptide-in-loop-i c =

@@ -5,7 +5,7 @@ use mathlib.Core.Path.{◌≡◌}
 use lib.ListN.{length}
 use Rattle.bounds.specs.Curves.{repeated}
 use Rattle.bounds.proofs.Calls.PathLaws.{Seen}
-use Rattle.bounds.proofs.path.first_repeat.Given as goal
+use Rattle.bounds.proofs.path.check_repeats.Given as goal
 
 abbrev pub invariant-loop-i : goal.invariant-loop-i
 invariant-loop-i l = record {

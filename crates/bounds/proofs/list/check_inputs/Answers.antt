@@ -9,45 +9,45 @@ use Rattle.bounds.specs.Tally.{charge_of}
 use Rattle.bounds.proofs.Walking.Steps.{product_fits}
 use Rattle.bounds.proofs.Calls.ListCalls.{inputs_judged}
 use borrow.Author.Rules.{rules}
-use Rattle.bounds.proofs.list.input_cause.Goals as goal
-use Rattle.bounds.proofs.list.input_cause.Goals.{Else-bad_selection}
+use Rattle.bounds.proofs.list.check_inputs.Goals as goal
+use Rattle.bounds.proofs.list.check_inputs.Goals.{Else-bad_selection}
 
 pub overflow_mul-count : goal.overflow_mul-count
 overflow_mul-count c =
-    record { fits = omega (arith, product_fits c.args.count c.args.peptides (search rules) (search rules)) }
+    record { fits = omega (arith, product_fits c.args.count c.args.sizes.peptides (search rules) (search rules)) }
 
 pub returns-then-bad_selection : goal.returns-then-bad_selection
 returns-then-bad_selection c =
     let a = c.args in
-    let e14 : list_cause14 a.peptides a.selections.now a.count ≡ true = sym c.bad_selection.ensures ∙ c.if-bad_selection.true in
-    sym (inputs_judged a.peptides a.regions a.selections.now a.count a.tally a.room ∙ rw e14)
+    let e14 : list_cause14 a.sizes.peptides a.selections.now a.count ≡ true = sym c.bad_selection.ensures ∙ c.if-bad_selection.true in
+    sym (inputs_judged a.sizes.peptides a.sizes.regions a.selections.now a.count a.tally a.room ∙ rw e14)
 
 -- the bytes are right
-right : (c : Else-bad_selection) → list_cause14 c.args.peptides c.args.selections.now c.args.count ≡ false
+right : (c : Else-bad_selection) → list_cause14 c.args.sizes.peptides c.args.selections.now c.args.count ≡ false
 right c = sym c.bad_selection.ensures ∙ c.if-bad_selection.false
 
 pub returns-then-room-count : goal.returns-then-room-count
 returns-then-room-count c =
     let a = c.args in
-    sym (inputs_judged a.peptides a.regions a.selections.now a.count a.tally a.room
+    sym (inputs_judged a.sizes.peptides a.sizes.regions a.selections.now a.count a.tally a.room
     ∙ rw (right (goal.at.returns-then-room-count c).Else-bad_selection, lt-ltb a.room a.count c.if-room-count.true))
 
 pub returns-then-count-gt32 : goal.returns-then-count-gt32
 returns-then-count-gt32 c =
     let a = c.args in
-    sym (inputs_judged a.peptides a.regions a.selections.now a.count a.tally a.room
+    sym (inputs_judged a.sizes.peptides a.sizes.regions a.selections.now a.count a.tally a.room
     ∙ rw (right (goal.at.returns-then-count-gt32 c).Else-bad_selection, le-ltb a.room a.count c.if-room-count.false, lt-ltb 32 a.count c.if-count-gt32.true))
 
 pub returns-then-tally-charge : goal.returns-then-tally-charge
 returns-then-tally-charge c =
     let a = c.args in
-    let over = lt-ltb 4294967295 (a.tally + charge_of a.regions a.count) (omega (arith, c.if-tally-charge.true, c.charge_of-charge.ensures)) in
-    sym (inputs_judged a.peptides a.regions a.selections.now a.count a.tally a.room
+    let over = lt-ltb 4294967295 (a.tally + charge_of a.sizes.regions a.count) (omega (arith, c.if-tally-charge.true, c.charge_of-charge.ensures)) in
+    sym (inputs_judged a.sizes.peptides a.sizes.regions a.selections.now a.count a.tally a.room
     ∙ rw (right (goal.at.returns-then-tally-charge c).Else-bad_selection, le-ltb a.room a.count c.if-room-count.false, le-ltb 32 a.count c.if-count-gt32.false, over))
 
-pub returns-else-tally-charge : goal.returns-else-tally-charge
-returns-else-tally-charge c =
+pub returns : goal.returns
+returns c =
     let a = c.args in
-    let within = le-ltb 4294967295 (a.tally + charge_of a.regions a.count) (omega (arith, c.if-tally-charge.false, c.charge_of-charge.ensures)) in
-    sym (inputs_judged a.peptides a.regions a.selections.now a.count a.tally a.room
-    ∙ rw (right (goal.at.returns-else-tally-charge c).Else-bad_selection, le-ltb a.room a.count c.if-room-count.false, le-ltb 32 a.count c.if-count-gt32.false, within))
+    let within = le-ltb 4294967295 (a.tally + charge_of a.sizes.regions a.count) (omega (arith, c.if-tally-charge.false, c.charge_of-charge.ensures)) in
+    sym (inputs_judged a.sizes.peptides a.sizes.regions a.selections.now a.count a.tally a.room
+    ∙ rw (right (goal.at.returns c).Else-bad_selection, le-ltb a.room a.count c.if-room-count.false, le-ltb 32 a.count c.if-count-gt32.false, within))
