@@ -20,9 +20,6 @@ pub mark_path-requires : goal.mark_path-requires
 mark_path-requires c =
     record { walkable = c.requires.walkable; path_in_bounds = c.requires.marks_room }
 
-pub slice_bounds-write_values-end : goal.slice_bounds-write_values-end
-slice_bounds-write_values-end c = omega (arith, c.requires.marks_room, c.mark_path.auto.marks)
-
 pub write_values-requires : goal.write_values-requires
 write_values-requires c =
     let pre = c.requires in

@@ -9,10 +9,6 @@ use Rattle.reader.proofs.Lists.{write_first, write_more}
 use Rattle.bounds.proofs.Walking.Steps.{marks_none, marks_more}
 use Rattle.bounds.proofs.entries.write_values.Goals as goal
 
-pub bounds-values-0 : goal.bounds-values-0
-bounds-values-0 c =
-    omega (arith, c.requires.room)
-
 pub loop-t-init : goal.loop-t-init
 loop-t-init c =
     let M = c.args.marks.now in
@@ -26,10 +22,6 @@ loop-t-init c =
 pub next_entry-entry-requires : goal.next_entry-entry-requires
 next_entry-entry-requires c =
     (omega (arith, c.requires.marks_of.few, c.loop-t.invariant.few, c.loop-t-test.true), c.requires.marks_of.small c.loop-t.t c.loop-t-test.true)
-
-pub bounds-values-t : goal.bounds-values-t
-bounds-values-t c =
-    omega (arith, c.requires.room, simp length-set at c.loop-t.invariant.same_length, c.loop-t-test.true)
 
 pub loop-t-preserved : goal.loop-t-preserved
 loop-t-preserved c =

@@ -12,10 +12,6 @@ use borrow.Author.Rules.{rules}
 use Rattle.bounds.proofs.list.check_inputs.Goals as goal
 use Rattle.bounds.proofs.list.check_inputs.Goals.{Else-bad_selection}
 
-pub overflow_mul-count : goal.overflow_mul-count
-overflow_mul-count c =
-    record { fits = omega (arith, product_fits c.args.count c.args.sizes.peptides (search rules) (search rules)) }
-
 pub returns-then-bad_selection : goal.returns-then-bad_selection
 returns-then-bad_selection c =
     let a = c.args in

@@ -36,10 +36,6 @@ line F selections count m i total known more =
 line_here : (c : In-loop-i) → Line (family_of c.args.file.now) c.args.selections.now c.peptide_count-m.result c.loop-i.i
 line_here c = line _ _ _ _ _ c.requires.whole c.peptide_count-m.ensures c.loop-i-test.true
 
-pub overflow_mul-start : goal.overflow_mul-start
-overflow_mul-start c =
-    record { fits = omega (arith, (line_here (goal.at.overflow_mul-start c).In-loop-i).ends) }
-
 pub loop-i-preserved : goal.loop-i-preserved
 loop-i-preserved c =
     let inv = c.loop-i.invariant in

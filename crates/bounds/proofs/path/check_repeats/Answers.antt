@@ -23,18 +23,6 @@ loop-i-init c =
       different = λ k l. absurd (omega arith);
     }
 
-pub bounds-seen-peptide : goal.bounds-seen-peptide
-bounds-seen-peptide c =
-    omega (arith, fits (goal.at.bounds-seen-peptide c).In-loop-i, c.loop-i.invariant.whole)
-
-pub overflow_add-result : goal.overflow_add-result
-overflow_add-result c =
-    omega (arith, c.requires.short)
-
-pub overflow_cast-result : goal.overflow_cast-result
-overflow_cast-result c =
-    omega (arith, c.requires.short)
-
 pub returns-then-seen-peptide : goal.returns-then-seen-peptide
 returns-then-seen-peptide c =
     let path = c.args.path.now in
@@ -42,10 +30,6 @@ returns-then-seen-peptide c =
     let inv = c.loop-i.invariant in
     let here : i + 1 ≡ first_repeat path = repeat_at_lem path i c.loop-i-test.true (repeated_seen path i ∙ sym (inv.found (get_or path i 0) (fits (goal.at.returns-then-seen-peptide c).In-loop-i)) ∙ c.if-seen-peptide.true) inv.different in
     (repeat_holds path (λ z. omega arith), ap Repeated here)
-
-pub bounds-seen-peptide-in-loop-i : goal.bounds-seen-peptide-in-loop-i
-bounds-seen-peptide-in-loop-i c =
-    omega (arith, fits (goal.at.bounds-seen-peptide-in-loop-i c).In-loop-i, c.loop-i.invariant.whole)
 
 pub loop-i-preserved : goal.loop-i-preserved
 loop-i-preserved c =

@@ -31,10 +31,6 @@ module _ (s : List ℕ) (a b : ℕ) (h : (a ≤ b) × (b ≤ length s)) where
       let next : a + (i + 1) ≡ a + i + 1 = omega arith in
       rw next (omega (arith, card_next (a + i) (selected s), ap bit (bit_here i l)))
 
-pub overflow_add-count : goal.overflow_add-count
-overflow_add-count c =
-    omega (arith, many c.args.selection.now c.args.after.0 c.args.upto.0 c.requires)
-
 pub loop-byte-init : goal.loop-byte-init
 loop-byte-init c =
     let start : c.args.after.0 + 0 ≡ c.args.after.0 = omega arith in
