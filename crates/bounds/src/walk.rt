@@ -6,23 +6,10 @@ ghost use Rattle.reader.specs.Family.{Family, family_of, leaves, leaf_of, region
 ghost use Rattle.reader.specs.WellFormed.{Ordered, Nested};
 ghost use Rattle.bounds.specs.Curves.{curve_marks};
 ghost use Rattle.bounds.specs.Holding.{LastHolding};
-ghost use Rattle.bounds.specs.Private.Walks.{Walkable, Painted, InnermostAtLeaves, crowded, Uncrowded, OneLess, MarkedNext};
+ghost use Rattle.bounds.specs.Private.Walks.{Walkable, InnermostAtLeaves, crowded, Uncrowded, OneLess, MarkedNext};
 
 use leaves::leaf_of;
-use reader::family::{Leaf, Peptide, region_count, region_of};
-
-// Writes a region's number at each of its leaves.
-fn paint(innermost: &mut [u16], first: Leaf, last: Leaf, number: u16)
-    requires { (first.0 ≤ last.0) × (last.0 < length innermost.old) }
-    ensures { Painted innermost.old first.0 last.0 number innermost.new }
-{
-    let end = last.0 as usize;
-    let mut j = first.0 as usize;
-    while j <= end {
-        innermost[j] = number;
-        j += 1;
-    }
-}
+use reader::family::{Peptide, Region, region_count, region_of};
 
 // Writes at each leaf the number of the innermost region that holds it. In file order what is inside a region comes after it,
 // so the last number written at a leaf stays. A leaf is written once for each region around it, 64 times at most.
@@ -33,14 +20,9 @@ fn fill_innermost(file: &[u8], innermost: &mut [u16])
     ensures innermost_len_unchanged { length innermost.new ≡ length innermost.old }
     ensures innermost_at_leaves { InnermostAtLeaves (family_of file.now) innermost.new }
 {
-    let regions = region_count(file);
-    let mut k = 0;
-    while k < regions {
-        let region = region_of(file, k);
-        let first = region.first;
-        let last = region.last;
-        k += 1;
-        paint(innermost, first, last, k);
+    for k in 0..region_count(file) {
+        let Region { first, last, .. } = region_of(file, k);
+        innermost[first.0 as usize..=last.0 as usize].fill(k + 1);
     }
 }
 
@@ -50,12 +32,8 @@ fn fill_spare(file: &[u8], spare: &mut [u16])
     ensures spare_len_unchanged { length spare.new ≡ length spare.old }
     ensures by_index { (k : ℕ) → k < region_count (family_of file.now) → get_or spare.new k 0 ≡ (region (family_of file.now) k).z }
 {
-    let regions = region_count(file);
-    let mut k = 0;
-    while k < regions {
-        let region = region_of(file, k);
-        spare[k as usize] = region.z;
-        k += 1;
+    for k in 0..region_count(file) {
+        spare[k as usize] = region_of(file, k).z;
     }
 }
 
@@ -123,10 +101,8 @@ pub(crate) fn mark_path(file: &[u8], parents: &[u16], path: &[u16], marks: &mut 
     fill_spare(file, &mut spare);
     let mut innermost = [0u16; 4097];
     fill_innermost(file, &mut innermost);
-    let mut t = 0;
-    while t < path.len() {
-        let mark = mark_next(file, parents, &innermost, &mut spare, Peptide(path[t]));
+    for (t, number) in path.iter().enumerate() {
+        let mark = mark_next(file, parents, &innermost, &mut spare, Peptide(*number));
         marks[t] = mark;
-        t += 1;
     }
 }

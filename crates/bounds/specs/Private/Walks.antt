@@ -7,7 +7,7 @@ use Rattle.reader.specs.Calls.{Report}
 use Rattle.reader.specs.WellFormed.{WellFormed, Nested}
 use Rattle.bounds.specs.Curves.{cause11, cause12}
 use Rattle.bounds.specs.Calls.{input_causes, path_refusal}
-use Rattle.bounds.specs.Holding.{is_between, holds_leaf, LastHolding}
+use Rattle.bounds.specs.Holding.{holds_leaf, LastHolding}
 use Rattle.bounds.specs.declared.path.Admitted.{Admitted}
 use Rattle.bounds.specs.declared.path.Admitted.TheVariants.{Yes, Refused, Repeated}
 
@@ -46,11 +46,6 @@ Admission file path P (Repeated p) = InputRefused file path (record { number = 1
 -- The list has at each leaf the number of the last region that holds it, which is the innermost one.
 abbrev pub InnermostAtLeaves : Family → List ℕ → Type 0
 InnermostAtLeaves F T = (leaf : ℕ) → LastHolding F leaf (get_or T leaf 0)
-
--- the list D is T with a number written from a first place to a last one
-pub record Painted (T : List ℕ) (first last number : ℕ) (D : List ℕ) : Type 0 where
-  pub same : length D ≡ length T
-  pub written : (j : ℕ) → get_or D j 0 ≡ cond (is_between first last j) number (get_or T j 0)
 
 -- The marks that each region can still take: its z less the marked peptides that it has.
 
