@@ -1,5 +1,5 @@
 -- What the private functions that judge a selection and walk along its rows promise each other.
-use Rattle.std.specs.Prelude.{ℕ, zero, suc, ◌+◌, ◌-◌, ◌≤◌, ◌<◌, Bool, ◌&&◌, List, ◌⊎◌, ◌≡◌, length, get_or, leb, ltb}
+use Rattle.std.specs.Prelude.{ℕ, zero, suc, ◌+◌, ◌-◌, ◌≤◌, ◌<◌, List, ◌⊎◌, ◌≡◌, length, get_or}
 use Rattle.reader.specs.Family.{Family, leaves, region_count, region, peptides_up_to}
 use Rattle.reader.specs.WellFormed.{WellFormed}
 use Rattle.bounds.specs.Ranges.{Range, card, range_at, ranges_of}
@@ -27,8 +27,13 @@ last_leaf F zero = leaves F
 last_leaf F (suc i) = (region F i).last
 
 -- there is a k-th region, and it begins at the leaf `last` or before
-unfoldable pub begins_by : Family → ℕ → ℕ → Bool
-begins_by F k last = ltb k (region_count F) && leb (region F k).first last
+pub record BeginsBy (F : Family) (k last : ℕ) : Type 0 where
+  pub some : k < region_count F
+  pub first : (region F k).first ≤ last
+
+-- a k-th region begins after the leaf `last`
+abbrev pub BeginsAfter : Family → ℕ → ℕ → Type 0
+BeginsAfter F k last = k < region_count F → last < (region F k).first
 
 -- what is known where a selection of the right length is counted in a family
 pub record Ready (F : Family) (selection : List ℕ) : Type 0 where

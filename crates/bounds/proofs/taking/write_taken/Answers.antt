@@ -30,7 +30,7 @@ loop-k-preserved c =
     let inv = c.loop-k.invariant in
     let here : k < region_count F = omega arith in
     let is_new : c.is_taken-is_new.result ≡ takes F k (get_or T k 0) (taken_until F T k) =
-        c.is_taken-is_new.ensures ∙ ap₂ (λ (r : Region) (u : ℕ). takes_region r (get_or T k 0) u) c.region_of-region.ensures inv.until in
+    c.is_taken-is_new.ensures ∙ ap₂ (λ (r : Region) (u : ℕ). takes_region r (get_or T k 0) u) c.region_of-region.ensures inv.until in
     record {
       until = until_next F T k _ (elim c.if-is_new.branch [ then-is_new w ↦ rw (sym is_new ∙ w.if-is_new.true) (ap (λ (l : Leaf). l.0) w.until-is ∙ held_last _ _ c.region_of-region.ensures) | else-is_new w ↦ rw (sym is_new ∙ w.if-is_new.false) (ap (λ (l : Leaf). l.0) w.until-is ∙ inv.until) ]);
       taken = ap (λ (t : List ℕ). set t k (bool_byte c.is_taken-is_new.result)) inv.taken ∙ taken_next F T c.args.taken.now k _ here (omega (arith, c.requires.taken_room)) (ap bool_byte is_new ∙ byte_is (takes F k (get_or T k 0) (taken_until F T k)));
