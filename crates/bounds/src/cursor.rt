@@ -7,11 +7,12 @@ ghost use Rattle.bounds.specs.Private.Rows.{BeginsBy, BeginsAfter, Ready, OnLeaf
 use crate::selection::selected_between;
 use reader::family::{Leaf, Peptide, Region, peptides_between, region_count, region_of};
 
-// The line of a family's leaves, and the peptides that are selected on it.
+// The line of a well-formed family's leaves, and the peptides that are selected on it.
 #[derive(Clone, Copy)]
 pub(crate) struct Line<'a> {
     pub file: &'a [u8],
     pub selection: &'a [u8],
+    ghost ready: { ∥ Ready (family_of file.now) selection.now ∥₁ },
 }
 
 // Where a walk along the line stands: the next region, and the last leaf and the last peptide passed, 0 before the first.
@@ -32,7 +33,6 @@ pub(crate) struct Counted {
 impl Line<'_> {
     // Goes on to the end of a leaf, and counts the selected peptides on the way.
     pub fn pass(&self, from: Cursor, last: Leaf) -> Counted
-        requires ready { Ready (family_of self.now.file.now) self.now.selection.now }
         requires on_leaf { OnLeaf (family_of self.now.file.now) from }
         requires forward { from.leaf.0 ≤ last.0 }
         requires on_line { last.0 ≤ leaves (family_of self.now.file.now) }
@@ -67,7 +67,6 @@ impl Line<'_> {
 
     // Goes on to the next region, whose record is given, and counts the selected peptides before it.
     pub fn pass_to_region(&self, from: Cursor, next: Region) -> Counted
-        requires ready { Ready (family_of self.now.file.now) self.now.selection.now }
         requires on_leaf { OnLeaf (family_of self.now.file.now) from }
         requires some_region { from.region < region_count (family_of self.now.file.now) }
         requires ahead { from.leaf.0 < (region (family_of self.now.file.now) from.region).first }

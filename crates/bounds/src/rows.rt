@@ -13,7 +13,7 @@ impl Line<'_> {
     // The value of the region at the cursor, whose record is given: the smaller of its z and its inside total, which is stored.
     #[cycle(region_value_row_value)]
     fn region_value(&self, totals: &mut [u16], from: Cursor, this: Region) -> Counted
-        requires region_ready { RegionReady (family_of self.now.file.now) self.now.selection.now totals.old from }
+        requires region_ready { RegionReady (family_of self.now.file.now) totals.old from }
         requires this_value { held this ≡ region (family_of self.now.file.now) from.region }
         ensures { RegionWalked (family_of self.now.file.now) self.now.selection.now totals.old totals.new from result }
     {
@@ -33,7 +33,7 @@ impl Line<'_> {
     // peptides between them.
     #[cycle(region_value_row_value)]
     fn row_value(&self, totals: &mut [u16], last: Leaf, from: Cursor) -> Counted
-        requires { RowReady (family_of self.now.file.now) self.now.selection.now totals.old from last.0 }
+        requires { RowReady (family_of self.now.file.now) totals.old from last.0 }
         ensures { RowWalked (family_of self.now.file.now) self.now.selection.now totals.old totals.new from result }
     {
         let mut total = 0;

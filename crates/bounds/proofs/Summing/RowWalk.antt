@@ -87,7 +87,7 @@ module _ {F : Family} (w : WellFormed F) where
 
 module _ {F : Family} {selection : List ℕ} (w : WellFormed F) where
   -- It starts,
-  pub row_starts : (c : Cursor) (last : ℕ) (totals : List ℕ) → RowReady F selection totals c last → Along F selection c.region c.peptide.0 c 0
+  pub row_starts : (c : Cursor) (last : ℕ) (totals : List ℕ) → RowReady F totals c last → Along F selection c.region c.peptide.0 c 0
   row_starts c last totals r =
       let b = c.region in
       let ends = leaf_before_lem w b r.here in
@@ -104,11 +104,10 @@ module _ {F : Family} {selection : List ℕ} (w : WellFormed F) where
 
   module _ (b start : ℕ) (c : Cursor) (n : ℕ) (a : Along F selection b start c n) where
     -- comes to a region,
-    pub region_meets : (totals : List ℕ) (p : Counted) → Ready F selection → region_count F ≤ length totals → BeginsBy F c.region (last_leaf F b)
-        → PassedTo F selection c ((region F c.region).first - 1) p → RegionReady F selection totals p.at
-    region_meets totals p r room e q =
+    pub region_meets : (totals : List ℕ) (p : Counted) → region_count F ≤ length totals → BeginsBy F c.region (last_leaf F b)
+        → PassedTo F selection c ((region F c.region).first - 1) p → RegionReady F totals p.at
+    region_meets totals p room e q =
         record {
-          ready = r;
           room = room;
           here = omega (arith, q.region, e.some);
           leaf = q.leaf ∙ ap (λ (k : ℕ). (region F k).first - 1) (sym q.region);
@@ -206,7 +205,7 @@ module _ {F : Family} {selection : List ℕ} (w : WellFormed F) where
 
   -- All that the row's call promises, with the totals stored on the way.
   pub row_finishes : (s c : Cursor) (n : ℕ) (r : Counted) (old new : List ℕ) (last v : ℕ) → Along F selection s.region s.peptide.0 c n
-      → RowReady F selection old s last → BeginsAfter F c.region last → PassedTo F selection c last r → Stored F selection old new s.region c.region
+      → RowReady F old s last → BeginsAfter F c.region last → PassedTo F selection c last r → Stored F selection old new s.region c.region
       → v ≡ n + r.count → RowWalked F selection old new s (record { count = v; at = r.at })
   row_finishes s c n r old new last v a ready e passed stored ev =
       let b = s.region in
@@ -227,13 +226,12 @@ module _ {F : Family} {selection : List ℕ} (w : WellFormed F) where
 abbrev pub entered : Cursor → Cursor
 entered c = record { region = c.region + 1; leaf = c.leaf; peptide = c.peptide }
 
-module _ {F : Family} {selection : List ℕ} where
-  pub region_row : (c : Cursor) (totals : List ℕ) (last : ℕ) → RegionReady F selection totals c → last ≡ (region F c.region).last
-      → RowReady F selection totals (entered c) last
+module _ {F : Family} where
+  pub region_row : (c : Cursor) (totals : List ℕ) (last : ℕ) → RegionReady F totals c → last ≡ (region F c.region).last
+      → RowReady F totals (entered c) last
   unfolding leaf_before last_leaf
   region_row c totals last r e =
       record {
-        ready = r.ready;
         room = r.room;
         here = omega (arith, r.here);
         leaf = rw add-one r.leaf;
@@ -241,7 +239,8 @@ module _ {F : Family} {selection : List ℕ} where
         ends = rw add-one e;
       }
 
-  pub region_finishes : (c : Cursor) (old new : List ℕ) (z v : ℕ) (r : Counted) → RegionReady F selection old c → length new ≡ length old
+module _ {F : Family} {selection : List ℕ} where
+  pub region_finishes : (c : Cursor) (old new : List ℕ) (z v : ℕ) (r : Counted) → RegionReady F old c → length new ≡ length old
       → z ≡ (region F c.region).z → v ≡ min z r.count → RowWalked F selection old new (entered c) r
       → RegionWalked F selection old (set new c.region r.count) c (record { count = v; at = r.at })
   unfolding value row_range last_leaf
@@ -261,13 +260,12 @@ module _ {F : Family} {selection : List ℕ} where
 
 -- The whole line.
 
-module _ {F : Family} {selection : List ℕ} where
-  pub line_row : (c : Cursor) (totals : List ℕ) (last : ℕ) → Ready F selection → region_count F ≤ length totals
-      → c.region ≡ 0 → c.leaf.0 ≡ 0 → c.peptide.0 ≡ 0 → last ≡ leaves F → RowReady F selection totals c last
+module _ {F : Family} where
+  pub line_row : (c : Cursor) (totals : List ℕ) (last : ℕ) → region_count F ≤ length totals
+      → c.region ≡ 0 → c.leaf.0 ≡ 0 → c.peptide.0 ≡ 0 → last ≡ leaves F → RowReady F totals c last
   unfolding leaf_before last_leaf
-  line_row c totals last r room first leaf peptide e =
+  line_row c totals last room first leaf peptide e =
       record {
-        ready = r;
         room = room;
         here = omega arith;
         leaf = rw first leaf;
@@ -275,6 +273,7 @@ module _ {F : Family} {selection : List ℕ} where
         ends = rw first e;
       }
 
+module _ {F : Family} {selection : List ℕ} where
   -- no region is after the last leaf
   pub line_finishes : (c : Cursor) (r : Counted) (old new : List ℕ) → Ready F selection → c.region ≡ 0 → RowWalked F selection old new c r
       → LineWalked F selection old new r.count

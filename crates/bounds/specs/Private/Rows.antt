@@ -35,7 +35,7 @@ pub record BeginsBy (F : Family) (k last : ℕ) : Type 0 where
 abbrev pub BeginsAfter : Family → ℕ → ℕ → Type 0
 BeginsAfter F k last = k < region_count F → last < (region F k).first
 
--- what is known where a selection of the right length is counted in a family
+-- what a line knows: its family is well-formed, and its selection has the right length
 pub record Ready (F : Family) (selection : List ℕ) : Type 0 where
   pub formed : WellFormed F
   pub whole : length selection ≡ F.peptides
@@ -53,16 +53,14 @@ pub record PassedTo (F : Family) (selection : List ℕ) (c : Cursor) (last : ℕ
   pub counted : r.count + card c.peptide.0 (selected selection) ≡ card r.at.peptide.0 (selected selection)
 
 -- the cursor stands before the region's first leaf
-pub record RegionReady (F : Family) (selection totals : List ℕ) (c : Cursor) : Type 0 where
-  pub ready : Ready F selection
+pub record RegionReady (F : Family) (totals : List ℕ) (c : Cursor) : Type 0 where
   pub room : region_count F ≤ length totals
   pub here : c.region < region_count F
   pub leaf : c.leaf.0 ≡ (region F c.region).first - 1
   pub peptide : c.peptide.0 ≡ peptides_up_to F c.leaf.0
 
 -- the cursor stands before the first leaf of the row that begins at its region
-pub record RowReady (F : Family) (selection totals : List ℕ) (c : Cursor) (last : ℕ) : Type 0 where
-  pub ready : Ready F selection
+pub record RowReady (F : Family) (totals : List ℕ) (c : Cursor) (last : ℕ) : Type 0 where
   pub room : region_count F ≤ length totals
   pub here : c.region ≤ region_count F
   pub leaf : c.leaf.0 ≡ leaf_before F c.region

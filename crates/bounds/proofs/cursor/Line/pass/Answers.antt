@@ -5,6 +5,7 @@ use mathlib.Core.Path.{◌≡◌, refl, sym, ap, subst, ◌∙◌}
 use Rattle.reader.specs.Family.{family_of, peptides_up_to}
 use Rattle.reader.proofs.Walk.{up_to_mono}
 use Rattle.bounds.proofs.Theory.Family.{leaf_most}
+use Rattle.bounds.proofs.Summing.Readiness.{is_ready}
 use Rattle.bounds.proofs.cursor.Line.pass.Goals as goal
 use Rattle.bounds.proofs.cursor.Line.pass.Goals.{After-peptides_between-between}
 
@@ -16,7 +17,7 @@ passed : (c : After-peptides_between-between)
 passed c =
     let pre = c.requires in
     let F = family_of c.args.self.now.file.now in
-    let w = pre.ready.formed in
+    let w = (is_ready c.args.self.now.ready).formed in
     let last = c.args.last.0 in
     let most = leaf_most w last pre.on_line in
     let more = up_to_mono F c.args.from.leaf.0 last pre.forward in
@@ -30,7 +31,7 @@ overflow_add-peptide c = omega (arith, passed (goal.at.overflow_add-peptide c).A
 
 pub selected_between-requires : goal.selected_between-requires
 selected_between-requires c =
-    (omega arith, omega (arith, passed (goal.at.selected_between-requires c).After-peptides_between-between, c.requires.ready.whole))
+    (omega arith, omega (arith, passed (goal.at.selected_between-requires c).After-peptides_between-between, (is_ready c.args.self.now.ready).whole))
 
 pub returns : goal.returns
 returns c =

@@ -4,6 +4,7 @@ use native.Mathlib.Omega.{arith}
 use mathlib.Core.Path.{◌≡◌, ap}
 use Rattle.reader.specs.Family.{family_of, region}
 use Rattle.reader.proofs.Parsed.{held_first}
+use Rattle.bounds.proofs.Summing.Readiness.{is_ready}
 use Rattle.bounds.proofs.Summing.RowWalk.{passed_to}
 use Rattle.bounds.proofs.cursor.Line.pass_to_region.Goals as goal
 use Rattle.bounds.proofs.cursor.Line.pass_to_region.Goals.{Start}
@@ -21,7 +22,7 @@ pass-requires-clause-forward c =
 
 pub pass-requires-clause-on_line : goal.pass-requires-clause-on_line
 pass-requires-clause-on_line c =
-    let o = c.requires.ready.formed.ordered in
+    let o = (is_ready c.args.self.now.ready).formed.ordered in
     let k = c.args.from.region in
     let some = c.requires.some_region in
     omega (arith, first_read (goal.at.pass-requires-clause-on_line c).Start, o.first_last k some, o.last_leaf k some)
