@@ -53,15 +53,6 @@ InnermostAtLeaves F T = (leaf : ℕ) → LastHolding F leaf (get_or T leaf 0)
 unfoldable pub crowded : Family → List ℕ → ℕ → Bool
 crowded F S leaf = some_below (region_count F) (λ k. holds_leaf F leaf k && eqb (get_or S k 0) 0)
 
--- c is the number of the last region that holds some leaf, in some family with these parents, and no region that holds it is crowded
-pub record Uncrowded (P S : List ℕ) (c : ℕ) : Type 0 where
-  pub family : Family
-  pub nested : Nested family P
-  pub room : region_count family ≤ length S
-  pub leaf : ℕ
-  pub last : LastHolding family leaf c
-  pub free : crowded family S leaf ≡ false
-
 -- the regions that hold the leaf can take one mark less
 pub record OneLess (F : Family) (S : List ℕ) (leaf : ℕ) (D : List ℕ) : Type 0 where
   pub same : length D ≡ length S

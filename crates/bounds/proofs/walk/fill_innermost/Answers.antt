@@ -13,7 +13,7 @@ use Rattle.bounds.proofs.walk.fill_innermost.Goals as goal
 use Rattle.bounds.proofs.walk.fill_innermost.Goals.{After-region_of}
 
 -- the region's leaves are places of the list
-inside : (c : After-region_of) → (c.region_of.result.first.0 ≤ c.region_of.result.last.0) × (c.region_of.result.last.0 < length c.loop-k.innermost)
+inside : (c : After-region_of) → (c.region_of.result.first.0 ≤ c.region_of.result.last.0) × (c.region_of.result.last.0 < 4097)
 inside c =
     let o = c.requires.ordered in
     let r = c.region_of.ensures in
@@ -21,7 +21,7 @@ inside c =
     let here : k < region_count (family_of c.args.file.now) = omega arith in
     let first = held_first _ _ r in
     let last = held_last _ _ r in
-    (omega (arith, first, last, o.first_last k here), omega (arith, last, o.last_leaf k here, c.requires.file_in_bounds))
+    (omega (arith, first, last, o.first_last k here), omega (arith, last, o.last_leaf k here, c.requires.few))
 
 pub slice_bounds-fill-count : goal.slice_bounds-fill-count
 slice_bounds-fill-count c = omega (arith, inside (goal.at.slice_bounds-fill-count c).After-region_of)

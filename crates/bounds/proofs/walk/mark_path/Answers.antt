@@ -2,7 +2,7 @@ use Prim.Native.Nat.{ℕ, ◌+◌}
 use native.Mathlib.Omega.{arith}
 use mathlib.Core.List.{List}
 use mathlib.Core.Path.{◌≡◌, refl, sym, ap, ◌∙◌}
-use lib.ListN.{length, set, length-set, length-replicate}
+use lib.ListN.{length, set, length-set}
 use Rattle.reader.specs.Family.{family_of}
 use Rattle.reader.proofs.Lists.{write_none, write_more, zeros}
 use Rattle.bounds.specs.Curves.{mark_at, curve_marks}
@@ -17,14 +17,13 @@ loop-t-init c =
     let walk = c.requires.walkable in
     record {
       marks = write_none (λ i. mark_at (family_of c.args.file.now) c.args.path.now (i + 1)) c.args.marks.now;
-      spare = spare_start walk.well walk.different c.fill_spare.new.spare c.fill_spare.ensures.by_index;
+      spare = spare_start walk.well walk.different c.fill_spare.new.spare c.fill_spare.ensures;
     }
 
-pub mark_next-mark-requires-clause-peptide_in_bounds :
-    goal.mark_next-mark-requires-clause-peptide_in_bounds
-mark_next-mark-requires-clause-peptide_in_bounds c =
+pub mark_next-requires : goal.mark_next-requires
+mark_next-requires c =
     let walk = c.requires.walkable in
-    omega (arith, leaf_few walk.well walk.different c.loop-t.t c.loop-t-test.true, walk.well.leaves_most, walk.well.peptides_most, c.fill_innermost.auto.innermost, length-replicate {A = ℕ} 4097 0)
+    omega (arith, leaf_few walk.well walk.different c.loop-t.t c.loop-t-test.true, walk.well.leaves_most, walk.well.peptides_most)
 
 pub loop-t-preserved : goal.loop-t-preserved
 loop-t-preserved c =
@@ -32,7 +31,7 @@ loop-t-preserved c =
     let t = c.loop-t.t in
     let walk = c.requires.walkable in
     let args = c.args in
-    let step = c.mark_next-mark in
+    let step = c.mark_next in
     let n = next walk.well walk.different t c.loop-t-test.true c.loop-t.spare _ _ inv.spare step.ensures in
     record {
       marks = ap (λ (l : List ℕ). set l t step.result) inv.marks ∙ write_more (λ i. mark_at (family_of args.file.now) args.path.now (i + 1)) args.marks.now t step.result (omega (arith, c.requires.path_in_bounds)) n.right;

@@ -4,7 +4,7 @@ use mathlib.Core.Path.{◌≡◌, refl, sym, ap, ◌∙◌}
 use Rattle.reader.specs.Family.{family_of, region}
 use Rattle.reader.proofs.Parsed.{held_last, held_z}
 use Rattle.bounds.specs.Private.Rows.{BeginsBy, BeginsAfter, last_leaf}
-use Rattle.bounds.proofs.Summing.Readiness.{is_ready}
+use Rattle.bounds.proofs.Basics.Known.{is_ready}
 use Rattle.bounds.proofs.Summing.RowWalk.{leaf_before_lem, pass_fits, step_fits, stored_none, stored_more, row_starts, region_meets, row_steps, row_finishes, region_row, region_finishes}
 use Rattle.bounds.proofs.cursor.Line.+region_value_row_value.Goals as goal
 

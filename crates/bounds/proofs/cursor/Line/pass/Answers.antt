@@ -5,7 +5,7 @@ use mathlib.Core.Path.{◌≡◌, refl, sym, ap, subst, ◌∙◌}
 use Rattle.reader.specs.Family.{family_of, peptides_up_to}
 use Rattle.reader.proofs.Walk.{up_to_mono}
 use Rattle.bounds.proofs.Theory.Family.{leaf_most}
-use Rattle.bounds.proofs.Summing.Readiness.{is_ready}
+use Rattle.bounds.proofs.Basics.Known.{is_ready}
 use Rattle.bounds.proofs.cursor.Line.pass.Goals as goal
 use Rattle.bounds.proofs.cursor.Line.pass.Goals.{After-peptides_between-between}
 

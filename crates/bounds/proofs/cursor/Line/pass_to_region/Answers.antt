@@ -4,7 +4,7 @@ use native.Mathlib.Omega.{arith}
 use mathlib.Core.Path.{◌≡◌, ap}
 use Rattle.reader.specs.Family.{family_of, region}
 use Rattle.reader.proofs.Parsed.{held_first}
-use Rattle.bounds.proofs.Summing.Readiness.{is_ready}
+use Rattle.bounds.proofs.Basics.Known.{is_ready}
 use Rattle.bounds.proofs.Summing.RowWalk.{passed_to}
 use Rattle.bounds.proofs.cursor.Line.pass_to_region.Goals as goal
 use Rattle.bounds.proofs.cursor.Line.pass_to_region.Goals.{Start}
