@@ -17,7 +17,6 @@ ghost use Rattle.reduction.specs.Private.FileChecks.{FileJudged};
 
 use keep::list_reduced;
 use reader::Checked;
-use reader::bytes::same_bytes;
 use reader::family::peptide_count;
 use stretch::find_stretches;
 use write::write_reduced;
@@ -67,7 +66,7 @@ fn live_totals(file: &[u8], live: &[u8], totals: &mut [u16])
     ensures { Totalled file.now totals.new }
 {
     let m = peptide_count(file) as usize;
-    bounds::inside_totals(file, &live[0..m], totals);
+    bounds::inside_totals(file, &live[..m], totals);
 }
 
 // Reduces an accepted file. What is not needed at one time shares a place, which keeps the stack small: `from` and `to`
@@ -135,9 +134,7 @@ fn same_reduced(
     let first_size = reduce_accepted(first, first_parents, &mut one);
     let mut other = [0u8; 57354];
     let second_size = reduce_accepted(second, second_parents, &mut other);
-    let end = first_size.bytes as usize;
-    let other_end = second_size.bytes as usize;
-    same_bytes(&one[0..end], &other[0..other_end])
+    one[..first_size.bytes as usize] == other[..second_size.bytes as usize]
 }
 
 // Whether two families have the same reduced file, which they have exactly when they have the same curves.

@@ -70,18 +70,7 @@ pub record Ended (F : Family) (L H : List ℕ) : Type 0 where
   pub ends : Ends F L H
   pub rooms : RoomForRegions F L H
 
--- The live peptides, in one pass over the regions and the peptides.
-
--- M is L with the bytes from one place to another written anew: 0 for the first `until` peptides, 1 for those after them
-pub record LiveMarked (L M : List ℕ) (from to until : ℕ) : Type 0 where
-  pub old : (p : ℕ) → p < from → get_or M p 0 ≡ get_or L p 0
-  pub new : (p : ℕ) → from ≤ p → p < to → get_or M p 0 ≡ cond (ltb p until) 0 1
-
--- with a region more, which has that z and that high end, the dead peptides reach up to v, not u
-pub record Reached (z high u v : ℕ) : Type 0 where
-  pub grows : u ≤ v
-  pub covers : z ≡ 0 → high ≤ v
-  pub is : (v ≡ u) ⊎ ((z ≡ 0) × (v ≡ high))
+-- The live peptides, in one pass over the regions.
 
 -- the first n live bytes are right
 abbrev pub LiveUpTo : Family → ℕ → List ℕ → Type 0
