@@ -44,8 +44,7 @@ pub(crate) struct Size {
 }
 
 // The first of the causes 1 to 10 that holds, or 0 with the parents of the regions written.
-fn file_cause(file: &[u8], parents: &mut [u16]) -> u16
-    requires { 8191 ≤ length parents.old }
+fn file_cause(file: &[u8], parents: &mut [u16; 8191]) -> u16
     ensures { FileJudged file.now parents.new result }
 {
     match reader::parents(file, parents) {
@@ -59,10 +58,9 @@ fn file_cause(file: &[u8], parents: &mut [u16]) -> u16
 }
 
 // The inside total of each region with the live peptides selected.
-fn live_totals(file: &[u8], live: &[u8], totals: &mut [u16])
+fn live_totals(file: &[u8], live: &[u8; 4096], totals: &mut [u16; 8191])
     requires accepted { Accepted file.now }
     requires begins { Begins (live_bytes (family_of file.now)) live.now }
-    requires in_bounds { 8191 ≤ length totals.old }
     ensures { Totalled file.now totals.new }
 {
     let m = peptide_count(file) as usize;
@@ -72,7 +70,7 @@ fn live_totals(file: &[u8], live: &[u8], totals: &mut [u16])
 // Reduces an accepted file. What is not needed at one time shares a place, which keeps the stack small: `from` and `to`
 // hold the ends of the regions until the stretches are found, then the weights, then the reduced ranges; `zs` holds the
 // totals, then the bounds of these ranges; and the place of the parents holds the kept bounds once these are known.
-fn reduce_accepted(file: &[u8], parents: &mut [u16], out: &mut [u8]) -> Size
+fn reduce_accepted(file: &[u8], parents: &mut [u16; 8191], out: &mut [u8]) -> Size
     requires parented { Parented file.now parents.old }
     requires file_in_bounds { length file.now ≤ length out.old }
     ensures { Wrote file.now out.old out.new result.bytes result.regions }
@@ -122,9 +120,9 @@ pub fn reduce(file: &[u8], out: &mut [u8]) -> ReducedFile
 // Whether the reductions of two accepted files are equal.
 fn same_reduced(
     first: &[u8],
-    first_parents: &mut [u16],
+    first_parents: &mut [u16; 8191],
     second: &[u8],
-    second_parents: &mut [u16],
+    second_parents: &mut [u16; 8191],
 ) -> bool
     requires parented { Parented first.now first_parents.old }
     requires parented_2 { Parented second.now second_parents.old }

@@ -4,15 +4,28 @@ ghost use Rattle.std.specs.Prelude.{◌≡◌, cond, ◌+◌, ◌≤◌, length,
 ghost use Rattle.reader.specs.Family.{family_of, region_count};
 ghost use Rattle.bounds.specs.Selections.{selected};
 ghost use Rattle.reduction.specs.Private.Steps.{Parented, Stretched};
-ghost use Rattle.reduction.specs.Private.Passes.{Beginning, Began, Open, Ending, WithParents, RoomForRegions, Ends, Ended, LiveUpTo, RoomForPeptides, Nexts, Lasts, WithNearest, WithLives, if_within, FirstsUpTo, LastsUpTo, RoomForStretches};
+ghost use Rattle.reduction.specs.Private.Passes.{Beginning, Began, Open, Ending, WithParents, Ends, Ended, LiveUpTo, Nexts, Lasts, WithNearest, WithLives, if_within, FirstsUpTo, LastsUpTo};
 
 use reader::family::{
     Leaf, Peptide, leaf_count, leaf_length, peptide_count, region_count, region_of,
 };
 
+// The low and high ends of the regions. Two arrays and not one of pairs, as their places serve other numbers too.
+#[derive(Clone, Copy)]
+struct RegionEnds<'a> {
+    lows: &'a [u16; 8191],
+    highs: &'a [u16; 8191],
+}
+
 // Writes the low ends of the regions that begin after the last leaf and the last peptide passed, 0 before the first.
 // Returns the number of regions that have begun.
-fn begin_regions(file: &[u8], leaf: Leaf, peptide: Peptide, begun: u16, lows: &mut [u16]) -> u16
+fn begin_regions(
+    file: &[u8],
+    leaf: Leaf,
+    peptide: Peptide,
+    begun: u16,
+    lows: &mut [u16; 8191],
+) -> u16
     requires { Beginning (family_of file.now) leaf.0 peptide.0 begun lows.old }
     ensures { Began (family_of file.now) (leaf.0 + 1) begun result lows.new }
 {
@@ -39,11 +52,11 @@ fn innermost(before: u16, begun: u16, outer: u16) -> u16
 // that stays open.
 fn end_regions(
     file: &[u8],
-    parents: &[u16],
+    parents: &[u16; 8191],
     leaf: Leaf,
     peptide: Peptide,
     inner: u16,
-    highs: &mut [u16],
+    highs: &mut [u16; 8191],
 ) -> u16
     requires { Ending (family_of file.now) parents.now leaf.0 peptide.0 inner highs.old }
     ensures { Open (family_of file.now) leaf.0 (leaf.0 + 1) highs.new result }
@@ -62,9 +75,8 @@ fn end_regions(
 }
 
 // The low and high ends of every region. Each begins and ends once, so the pass is linear in leaves and regions.
-fn find_ends(file: &[u8], parents: &[u16], lows: &mut [u16], highs: &mut [u16])
-    requires with_parents { WithParents (family_of file.now) parents.now }
-    requires room_for_regions { RoomForRegions (family_of file.now) lows.old highs.old }
+fn find_ends(file: &[u8], parents: &[u16; 8191], lows: &mut [u16; 8191], highs: &mut [u16; 8191])
+    requires { WithParents (family_of file.now) parents.now }
     ensures { Ends (family_of file.now) lows.new highs.new }
 {
     let mut peptide = 0;
@@ -82,16 +94,15 @@ fn find_ends(file: &[u8], parents: &[u16], lows: &mut [u16], highs: &mut [u16])
 
 // The live peptides: all but those of the regions with z = 0. These regions begin in rising order, so what is dead from
 // the low end of one on reaches as far as any of them so far: only the peptides beyond that are marked.
-fn find_live(file: &[u8], lows: &[u16], highs: &[u16], live: &mut [u8])
-    requires ended { Ended (family_of file.now) lows.now highs.now }
-    requires file_in_bounds { (family_of file.now).peptides ≤ length live.old }
+fn find_live(file: &[u8], ends: RegionEnds, live: &mut [u8; 4096])
+    requires { Ended (family_of file.now) ends.lows.now ends.highs.now }
     ensures { LiveUpTo (family_of file.now) (family_of file.now).peptides live.new }
 {
     live[..peptide_count(file) as usize].fill(1);
     let mut until: usize = 0;
     for k in 0..region_count(file) {
-        let low = lows[k as usize] as usize;
-        let high = highs[k as usize] as usize;
+        let low = ends.lows[k as usize] as usize;
+        let high = ends.highs[k as usize] as usize;
         if region_of(file, k).z == 0 && until < high {
             live[low.max(until)..high].fill(0);
             until = high;
@@ -100,8 +111,8 @@ fn find_live(file: &[u8], lows: &[u16], highs: &[u16], live: &mut [u8])
 }
 
 // For each peptide the last live one up to it; 0 if there is none.
-fn fill_before(live: &[u8], m: u16, before: &mut [u16])
-    requires { RoomForPeptides m live.now before.old }
+fn fill_before(live: &[u8; 4096], m: u16, before: &mut [u16; 4098])
+    requires { m ≤ 4096 }
     ensures { Lasts m (selected live.now) before.new }
 {
     let mut last = 0;
@@ -115,8 +126,8 @@ fn fill_before(live: &[u8], m: u16, before: &mut [u16])
 }
 
 // For each peptide the first live one from it on; 0 if there is none.
-fn fill_after(live: &[u8], m: u16, after: &mut [u16])
-    requires { RoomForPeptides m live.now after.old }
+fn fill_after(live: &[u8; 4096], m: u16, after: &mut [u16; 4098])
+    requires { m ≤ 4096 }
     ensures { Nexts m (selected live.now) after.new }
 {
     let mut next = 0;
@@ -144,22 +155,20 @@ fn if_within(z: u16, low: u16, high: u16, peptide: Peptide) -> u16
 // if they are within it.
 fn write_nearest(
     file: &[u8],
-    lows: &[u16],
-    highs: &[u16],
-    after: &[u16],
-    before: &[u16],
-    firsts: &mut [u16],
-    lasts: &mut [u16],
+    ends: RegionEnds,
+    after: &[u16; 4098],
+    before: &[u16; 4098],
+    firsts: &mut [u16; 8191],
+    lasts: &mut [u16; 8191],
 )
-    requires with_nearest { WithNearest (family_of file.now) lows.now highs.now after.now before.now }
-    requires room_for_regions { RoomForRegions (family_of file.now) firsts.old lasts.old }
+    requires { WithNearest (family_of file.now) ends.lows.now ends.highs.now after.now before.now }
     ensures firsts_up_to { FirstsUpTo (family_of file.now) (region_count (family_of file.now)) firsts.new }
     ensures lasts_up_to { LastsUpTo (family_of file.now) (region_count (family_of file.now)) lasts.new }
 {
     for k in 0..region_count(file) {
         let z = region_of(file, k).z;
-        let low = lows[k as usize];
-        let high = highs[k as usize];
+        let low = ends.lows[k as usize];
+        let high = ends.highs[k as usize];
         let next = Peptide(after[low as usize + 1]);
         firsts[k as usize] = if_within(z, low, high, next);
         let previous = Peptide(before[high as usize]);
@@ -170,14 +179,12 @@ fn write_nearest(
 // The first and last live peptide of each region, given the ends of the regions and the live peptides.
 fn write_stretches(
     file: &[u8],
-    lows: &[u16],
-    highs: &[u16],
-    live: &[u8],
-    firsts: &mut [u16],
-    lasts: &mut [u16],
+    ends: RegionEnds,
+    live: &[u8; 4096],
+    firsts: &mut [u16; 8191],
+    lasts: &mut [u16; 8191],
 )
-    requires with_lives { WithLives (family_of file.now) lows.now highs.now live.now }
-    requires room_for_regions { RoomForRegions (family_of file.now) firsts.old lasts.old }
+    requires { WithLives (family_of file.now) ends.lows.now ends.highs.now live.now }
     ensures firsts_up_to { FirstsUpTo (family_of file.now) (region_count (family_of file.now)) firsts.new }
     ensures lasts_up_to { LastsUpTo (family_of file.now) (region_count (family_of file.now)) lasts.new }
 {
@@ -186,26 +193,25 @@ fn write_stretches(
     fill_after(live, m, &mut after);
     let mut before = [0u16; 4098];
     fill_before(live, m, &mut before);
-    write_nearest(file, lows, highs, &after, &before, firsts, lasts);
+    write_nearest(file, ends, &after, &before, firsts, lasts);
 }
 
 // The live peptides, and the first and last live peptide of each region with z ≥ 1. The low and high ends of the regions
 // are found on the way; nobody needs them afterwards, so their places are lent and may hold anything before and after.
 pub(crate) fn find_stretches(
     file: &[u8],
-    parents: &[u16],
-    lows: &mut [u16],
-    highs: &mut [u16],
-    live: &mut [u8],
-    firsts: &mut [u16],
-    lasts: &mut [u16],
+    parents: &[u16; 8191],
+    lows: &mut [u16; 8191],
+    highs: &mut [u16; 8191],
+    live: &mut [u8; 4096],
+    firsts: &mut [u16; 8191],
+    lasts: &mut [u16; 8191],
 )
-    requires parented { Parented file.now parents.now }
-    requires room_for_regions { RoomForRegions (family_of file.now) lows.old highs.old }
-    requires room_for_stretches { RoomForStretches file.now live.old firsts.old lasts.old }
+    requires { Parented file.now parents.now }
     ensures { Stretched file.now live.new firsts.new lasts.new }
 {
     find_ends(file, parents, lows, highs);
-    find_live(file, lows, highs, live);
-    write_stretches(file, lows, highs, live, firsts, lasts);
+    let ends = RegionEnds { lows, highs };
+    find_live(file, ends, live);
+    write_stretches(file, ends, live, firsts, lasts);
 }

@@ -22,7 +22,7 @@ returns-then-first-leaf c =
 pub loop-k-preserved : goal.loop-k-preserved
 loop-k-preserved c =
     let pre = c.requires in
-    one_begins _ pre.formed c.args.leaf.0 c.loop-k.k c.args.peptide.0 c.loop-k.lows (omega arith) (omega (arith, pre.room)) (sym (held_first _ _ c.region_of.ensures) ∙ c.if-first-leaf.false) pre.sums c.loop-k.invariant
+    one_begins _ pre.formed c.args.leaf.0 c.loop-k.k c.args.peptide.0 c.loop-k.lows (omega arith) (omega (arith, pre.formed.regions_most)) (sym (held_first _ _ c.region_of.ensures) ∙ c.if-first-leaf.false) pre.sums c.loop-k.invariant
 
 pub returns : goal.returns
 returns c =

@@ -16,7 +16,7 @@ loop-number-preserved c =
     let inv = c.loop-number.invariant in
     let some : 1 ≤ c.loop-number.number = omega (arith, c.loop-number-test) in
     let few = inv.few in
-    one_ends _ pre.family.formed c.args.leaf.0 c.loop-number.number _ c.args.peptide.0 c.loop-number.highs some (omega (arith, pre.room)) inv (sym (held_last _ _ c.region_of.ensures) ∙ c.if-last-leaf.false) pre.sums
+    one_ends _ pre.family.formed c.args.leaf.0 c.loop-number.number _ c.args.peptide.0 c.loop-number.highs some (omega (arith, pre.family.formed.regions_most)) inv (sym (held_last _ _ c.region_of.ensures) ∙ c.if-last-leaf.false) pre.sums
     (pre.family.known (c.loop-number.number - 1) (omega arith))
 
 pub returns : goal.returns

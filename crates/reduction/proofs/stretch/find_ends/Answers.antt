@@ -16,11 +16,11 @@ sums c = omega (arith, c.loop-passed.invariant.sums, c.leaf_length-peptide.ensur
 
 pub loop-passed-init : goal.loop-passed-init
 loop-passed-init c =
-    let w = c.requires.with_parents.formed in record { sums = sym (nothing_before _); begun = none_begun _ w _; opened = none_open _ w _ }
+    let w = c.requires.formed in record { sums = sym (nothing_before _); begun = none_begun _ w _; opened = none_open _ w _ }
 
 pub overflow_add-peptide : goal.overflow_add-peptide
 overflow_add-peptide c =
-    let w = c.requires.with_parents.formed in
+    let w = c.requires.formed in
     omega (arith, sums (goal.at.overflow_add-peptide c).After-leaf_length-peptide, leaf_most w (c.loop-passed.passed + 1) (omega arith), w.peptides_most)
 
 pub end_regions-inner-requires : goal.end_regions-inner-requires
@@ -28,10 +28,9 @@ end_regions-inner-requires c =
     let pre = c.requires in
     let inv = c.loop-passed.invariant in
     record {
-      family = pre.with_parents;
+      family = pre;
       sums = sums (goal.at.end_regions-inner-requires c).After-leaf_length-peptide;
-      opened = subst (Open _ _ _ _) (sym c.innermost-inner.ensures) (regions_begin _ pre.with_parents.formed c.loop-passed.passed _ _ _ _ _ _ inv.begun c.begin_regions-now_begun.ensures.begun c.begin_regions-now_begun.ensures.more inv.opened);
-      room = omega arith;
+      opened = subst (Open _ _ _ _) (sym c.innermost-inner.ensures) (regions_begin _ pre.formed c.loop-passed.passed _ _ _ _ _ _ inv.begun c.begin_regions-now_begun.ensures.begun c.begin_regions-now_begun.ensures.more inv.opened);
     }
 
 pub loop-passed-preserved : goal.loop-passed-preserved
@@ -41,4 +40,4 @@ loop-passed-preserved c =
 pub returns : goal.returns
 returns c =
     let inv = c.loop-passed.invariant in
-    ends_found _ c.requires.with_parents.formed c.loop-passed.passed _ _ _ _ (omega arith) inv.begun inv.opened
+    ends_found _ c.requires.formed c.loop-passed.passed _ _ _ _ (omega arith) inv.begun inv.opened

@@ -13,38 +13,37 @@ use Rattle.reduction.proofs.stretch.write_nearest.Goals as goal
 use Rattle.reduction.proofs.stretch.write_nearest.Goals.{In-loop-k}
 
 -- its ends are places from 0 to m
-high-place : (c : In-loop-k) → get_or c.args.highs.now c.loop-k.k 0 ≤ (family_of c.args.file.now).peptides
+high-place : (c : In-loop-k) → get_or c.args.ends.highs.now c.loop-k.k 0 ≤ (family_of c.args.file.now).peptides
 high-place c =
-    let pre = c.requires.with_nearest.ended in
+    let pre = c.requires.ended in
     omega (arith, pre.ends.high c.loop-k.k (omega arith), high_small _ pre.formed c.loop-k.k (omega arith))
 
-low-place : (c : In-loop-k) → get_or c.args.lows.now c.loop-k.k 0 ≤ (family_of c.args.file.now).peptides
+low-place : (c : In-loop-k) → get_or c.args.ends.lows.now c.loop-k.k 0 ≤ (family_of c.args.file.now).peptides
 low-place c =
-    let pre = c.requires.with_nearest.ended in
+    let pre = c.requires.ended in
     omega (arith, pre.ends.low c.loop-k.k (omega arith), low_high _ pre.formed c.loop-k.k (omega arith), high_small _ pre.formed c.loop-k.k (omega arith))
 
 pub bounds-after-low : goal.bounds-after-low
 bounds-after-low c =
-    omega (arith, low-place (goal.at.bounds-after-low c).In-loop-k, c.requires.with_nearest.places_after)
+    omega (arith, low-place (goal.at.bounds-after-low c).In-loop-k, c.requires.ended.formed.peptides_most)
 
 pub bounds-before-high : goal.bounds-before-high
 bounds-before-high c =
-    omega (arith, high-place (goal.at.bounds-before-high c).In-loop-k, c.requires.with_nearest.places_before)
+    omega (arith, high-place (goal.at.bounds-before-high c).In-loop-k, c.requires.ended.formed.peptides_most)
 
 pub loop-k-preserved : goal.loop-k-preserved
 loop-k-preserved c =
     let a = c.args in
-    let pre = c.requires.with_nearest in
-    let rooms = c.requires.room_for_regions in
+    let pre = c.requires in
     let inv = c.loop-k.invariant in
     let k = c.loop-k.k in
     let h : k < region_count (family_of a.file.now) = omega arith in
     let z = held_z _ _ c.region_of-z.ensures in
     record {
       firsts =
-          more_stored c.loop-k.firsts k _ (λ i. first_live _ (range_at _ i)) (omega (arith, rooms.first)) inv.firsts
-          (first_live_found _ k _ _ _ z (pre.ended.ends.low k h) (pre.ended.ends.high k h) _ _ (pre.nexts (get_or a.lows.now k 0 + 1) (omega arith) (omega (arith, low-place (goal.at.loop-k-preserved c).In-loop-k))) c.if_within.ensures);
+          more_stored c.loop-k.firsts k _ (λ i. first_live _ (range_at _ i)) (omega (arith, pre.ended.formed.regions_most)) inv.firsts
+          (first_live_found _ k _ _ _ z (pre.ended.ends.low k h) (pre.ended.ends.high k h) _ _ (pre.nexts (get_or a.ends.lows.now k 0 + 1) (omega arith) (omega (arith, low-place (goal.at.loop-k-preserved c).In-loop-k))) c.if_within.ensures);
       lasts =
-          more_stored c.loop-k.lasts k _ (λ i. last_live _ (range_at _ i)) (omega (arith, rooms.second)) inv.lasts
-          (last_live_found _ k _ _ _ z (pre.ended.ends.low k h) (pre.ended.ends.high k h) pre.ended.formed h _ _ (pre.lasts (get_or a.highs.now k 0) (high-place (goal.at.loop-k-preserved c).In-loop-k)) c.if_within-in-loop-k.ensures);
+          more_stored c.loop-k.lasts k _ (λ i. last_live _ (range_at _ i)) (omega (arith, pre.ended.formed.regions_most)) inv.lasts
+          (last_live_found _ k _ _ _ z (pre.ended.ends.low k h) (pre.ended.ends.high k h) pre.ended.formed h _ _ (pre.lasts (get_or a.ends.highs.now k 0) (high-place (goal.at.loop-k-preserved c).In-loop-k)) c.if_within-in-loop-k.ensures);
     }
