@@ -14,7 +14,7 @@ pub list_reduced-n-requires : goal.list_reduced-n-requires
 list_reduced-n-requires c =
     let s = c.args.file.now in
     let few = few_regions s (accepted_header s c.requires.parented.accepted) in
-    let found = c.find_stretches in record { parented = c.requires.parented; totalled = c.live_totals.ensures; stretched = found.ensures; file_in_bounds = omega (arith, found.auto.lows); file_in_bounds_2 = omega (arith, found.auto.highs); file_in_bounds_3 = omega (arith, c.live_totals.auto.totals) }
+    let found = c.find_stretches in record { parented = c.requires.parented; totalled = c.live_totals.ensures; stretched = found.ensures; from_room = omega (arith, found.auto.lows); to_room = omega (arith, found.auto.highs); bounds_room = omega (arith, c.live_totals.auto.totals) }
 
 pub write_reduced-requires : goal.write_reduced-requires
 write_reduced-requires c =
