@@ -11,7 +11,7 @@ pub list_reduced-n-requires : goal.list_reduced-n-requires
 list_reduced-n-requires c =
     let s = c.args.file.now in
     let few = few_regions s (accepted_header s c.requires.parented.accepted) in
-    let found = c.find_stretches in record { parented = c.requires.parented; totalled = c.live_totals.ensures; stretched = found.ensures; file_in_bounds = omega arith; file_in_bounds_2 = omega arith; file_in_bounds_3 = omega arith }
+    record { parented = c.requires.parented; totalled = c.live_totals.ensures; stretched = c.find_stretches.ensures; from_room = omega arith; to_room = omega arith; bounds_room = omega arith }
 
 pub write_reduced-requires : goal.write_reduced-requires
 write_reduced-requires c =
