@@ -18,7 +18,7 @@ ghost use Rattle.reduction.specs.Private.FileChecks.{FileJudged};
 use keep::list_reduced;
 use reader::Checked;
 use reader::family::peptide_count;
-use stretch::find_stretches;
+use stretch::{Stretch, find_stretches};
 use write::write_reduced;
 
 // The reduced file's length and number of regions, or the number of the first cause that holds.
@@ -76,8 +76,7 @@ fn reduce_accepted(file: &[u8], parents: &mut [u16; 8191], out: &mut [u8]) -> Si
     ensures { Wrote file.now out.old out.new result.bytes result.regions }
 {
     let mut live = [0u8; 4096];
-    let mut firsts = [0u16; 8191];
-    let mut lasts = [0u16; 8191];
+    let mut stretches = [Stretch { first: 0, last: 0 }; 8191];
     let mut from = [0u16; 8191];
     let mut to = [0u16; 8191];
     find_stretches(
@@ -86,13 +85,12 @@ fn reduce_accepted(file: &[u8], parents: &mut [u16; 8191], out: &mut [u8]) -> Si
         &mut from,
         &mut to,
         &mut live,
-        &mut firsts,
-        &mut lasts,
+        &mut stretches,
     );
     let mut zs = [0u16; 8191];
     live_totals(file, &live, &mut zs);
     let n = list_reduced(
-        file, parents, &live, &firsts, &lasts, &mut from, &mut to, &mut zs,
+        file, parents, &live, &stretches, &mut from, &mut to, &mut zs,
     );
     write_reduced(file, n, &from, &to, &zs, out)
 }

@@ -3,7 +3,7 @@
 ghost use Rattle.std.specs.Prelude.{◌≡◌, cond, ◌+◌, ◌≤◌, length, eqb};
 ghost use Rattle.reader.specs.Family.{family_of, region_count};
 ghost use Rattle.bounds.specs.Selections.{selected};
-ghost use Rattle.reduction.specs.Private.Steps.{Parented, Stretched};
+ghost use Rattle.reduction.specs.Private.Steps.{Parented, Stretched, firsts_of, lasts_of};
 ghost use Rattle.reduction.specs.Private.Passes.{Beginning, Began, Open, Ending, WithParents, Ends, Ended, LiveUpTo, Nexts, Lasts, WithNearest, WithLives, if_within, FirstsUpTo, LastsUpTo};
 
 use reader::family::{
@@ -15,6 +15,13 @@ use reader::family::{
 struct RegionEnds<'a> {
     lows: &'a [u16; 8191],
     highs: &'a [u16; 8191],
+}
+
+// The first and the last live peptide of a region with z ≥ 1; both 0 if z is 0 or there is none.
+#[derive(Clone, Copy, PartialEq, Eq)]
+pub(crate) struct Stretch {
+    pub first: u16,
+    pub last: u16,
 }
 
 // Writes the low ends of the regions that begin after the last leaf and the last peptide passed, 0 before the first.
@@ -158,21 +165,22 @@ fn write_nearest(
     ends: RegionEnds,
     after: &[u16; 4098],
     before: &[u16; 4098],
-    firsts: &mut [u16; 8191],
-    lasts: &mut [u16; 8191],
+    stretches: &mut [Stretch; 8191],
 )
     requires { WithNearest (family_of file.now) ends.lows.now ends.highs.now after.now before.now }
-    ensures firsts_up_to { FirstsUpTo (family_of file.now) (region_count (family_of file.now)) firsts.new }
-    ensures lasts_up_to { LastsUpTo (family_of file.now) (region_count (family_of file.now)) lasts.new }
+    ensures firsts_up_to { FirstsUpTo (family_of file.now) (region_count (family_of file.now)) (firsts_of stretches.new) }
+    ensures lasts_up_to { LastsUpTo (family_of file.now) (region_count (family_of file.now)) (lasts_of stretches.new) }
 {
     for k in 0..region_count(file) {
         let z = region_of(file, k).z;
         let low = ends.lows[k as usize];
         let high = ends.highs[k as usize];
         let next = Peptide(after[low as usize + 1]);
-        firsts[k as usize] = if_within(z, low, high, next);
         let previous = Peptide(before[high as usize]);
-        lasts[k as usize] = if_within(z, low, high, previous);
+        stretches[k as usize] = Stretch {
+            first: if_within(z, low, high, next),
+            last: if_within(z, low, high, previous),
+        };
     }
 }
 
@@ -181,19 +189,18 @@ fn write_stretches(
     file: &[u8],
     ends: RegionEnds,
     live: &[u8; 4096],
-    firsts: &mut [u16; 8191],
-    lasts: &mut [u16; 8191],
+    stretches: &mut [Stretch; 8191],
 )
     requires { WithLives (family_of file.now) ends.lows.now ends.highs.now live.now }
-    ensures firsts_up_to { FirstsUpTo (family_of file.now) (region_count (family_of file.now)) firsts.new }
-    ensures lasts_up_to { LastsUpTo (family_of file.now) (region_count (family_of file.now)) lasts.new }
+    ensures firsts_up_to { FirstsUpTo (family_of file.now) (region_count (family_of file.now)) (firsts_of stretches.new) }
+    ensures lasts_up_to { LastsUpTo (family_of file.now) (region_count (family_of file.now)) (lasts_of stretches.new) }
 {
     let m = peptide_count(file);
     let mut after = [0u16; 4098];
     fill_after(live, m, &mut after);
     let mut before = [0u16; 4098];
     fill_before(live, m, &mut before);
-    write_nearest(file, ends, &after, &before, firsts, lasts);
+    write_nearest(file, ends, &after, &before, stretches);
 }
 
 // The live peptides, and the first and last live peptide of each region with z ≥ 1. The low and high ends of the regions
@@ -204,14 +211,13 @@ pub(crate) fn find_stretches(
     lows: &mut [u16; 8191],
     highs: &mut [u16; 8191],
     live: &mut [u8; 4096],
-    firsts: &mut [u16; 8191],
-    lasts: &mut [u16; 8191],
+    stretches: &mut [Stretch; 8191],
 )
     requires { Parented file.now parents.now }
-    ensures { Stretched file.now live.new firsts.new lasts.new }
+    ensures { Stretched file.now live.new (firsts_of stretches.new) (lasts_of stretches.new) }
 {
     find_ends(file, parents, lows, highs);
     let ends = RegionEnds { lows, highs };
     find_live(file, ends, live);
-    write_stretches(file, ends, live, firsts, lasts);
+    write_stretches(file, ends, live, stretches);
 }

@@ -14,16 +14,16 @@ marks c fits =
     bound_marked_more pre.with_stretches (counted c.loop-k.next) c.loop-k.k (omega (arith, c.loop-k-test.true)) (omega arith) inv.next _ _ _ c.loop-k.kept _ pre.totals_below pre.weighed_below
     fits (omega (arith, inv.room, pre.kept_room)) inv.marked c.kept_bound.ensures
 
-pub loop-k-preserved-then-nth-ne0 : goal.loop-k-preserved-then-nth-ne0
-loop-k-preserved-then-nth-ne0 c = record {
+pub loop-k-preserved-then-stretch_at-ne0 : goal.loop-k-preserved-then-stretch_at-ne0
+loop-k-preserved-then-stretch_at-ne0 c = record {
   room = simp length-set c.loop-k.invariant.room;
-  next = next_stretch c.requires.with_stretches (counted c.loop-k.next) c.loop-k.k (omega (arith, c.loop-k-test.true)) (omega arith) c.loop-k.invariant.next (λ e. c.if-nth-ne0.true (c.nth.ensures ∙ e));
-  marked = marks (goal.at.loop-k-preserved-then-nth-ne0 c).After-kept_bound (omega (arith, c.type_inv.totals (c.loop-k.k - 1)));
+  next = next_stretch c.requires.with_stretches (counted c.loop-k.next) c.loop-k.k (omega (arith, c.loop-k-test.true)) (omega arith) c.loop-k.invariant.next (λ e. c.if-stretch_at-ne0.true (c.stretch_at.ensures.first ∙ e));
+  marked = marks (goal.at.loop-k-preserved-then-stretch_at-ne0 c).After-kept_bound (omega (arith, c.type_inv.totals (c.loop-k.k - 1)));
 }
 
 pub loop-k-preserved : goal.loop-k-preserved
 loop-k-preserved c = record {
   room = simp length-set c.loop-k.invariant.room;
-  next = next_same c.requires.with_stretches (counted c.loop-k.next) c.loop-k.k (omega (arith, c.loop-k-test.true)) (omega arith) c.loop-k.invariant.next (sym c.nth.ensures ∙ c.if-nth-ne0.false);
+  next = next_same c.requires.with_stretches (counted c.loop-k.next) c.loop-k.k (omega (arith, c.loop-k-test.true)) (omega arith) c.loop-k.invariant.next (sym c.stretch_at.ensures.first ∙ c.if-stretch_at-ne0.false);
   marked = marks (goal.at.loop-k-preserved c).After-kept_bound (omega (arith, c.type_inv.totals (c.loop-k.k - 1)));
 }

@@ -22,18 +22,18 @@ returns-then-number-eq0 c s =
     rw (held_z _ (region F k) c.region_of-z.ensures)
     (weighed_outermost pre.with_stretches.well_formed k pre.k_bound (subst (IsParent F k) c.if-number-eq0.true (is-parent (goal.at.returns-then-number-eq0 c).After-nth-number)))
 
-pub returns-then-same : goal.returns-then-same
-returns-then-same c s =
+pub returns-then-same_stretch : goal.returns-then-same_stretch
+returns-then-same_stretch c s =
     let F = family_of c.args.file.now in
     let k = c.args.k in
     let pre = c.requires in
     rw (c.min.ensures, held_z _ (region F k) c.region_of-z.ensures, c.at-outer.ensures.least, c.at-outer.ensures.around)
-    (weigh_same pre.with_stretches c.args.weights.least.now c.args.weights.around.now k c.nth-number.result pre.k_bound c.if-number-eq0.false (is-parent (goal.at.returns-then-same c).After-nth-number) pre.weighed_below s (sym c.same.ensures ∙ c.if-same.true))
+    (weigh_same pre.with_stretches c.args.weights.least.now c.args.weights.around.now k c.nth-number.result pre.k_bound c.if-number-eq0.false (is-parent (goal.at.returns-then-same_stretch c).After-nth-number) pre.weighed_below s (sym c.same_stretch.ensures ∙ c.if-same_stretch.true))
 
-pub returns-else-same : goal.returns-else-same
-returns-else-same c s =
+pub returns-else-same_stretch : goal.returns-else-same_stretch
+returns-else-same_stretch c s =
     let F = family_of c.args.file.now in
     let k = c.args.k in
     let pre = c.requires in
-    rw (c.min-else-same.ensures, held_z _ (region F k) c.region_of-z.ensures, c.at-outer.ensures.least, c.at-outer.ensures.around)
-    (weigh_other pre.with_stretches c.args.weights.least.now c.args.weights.around.now k c.nth-number.result pre.k_bound c.if-number-eq0.false (is-parent (goal.at.returns-else-same c).After-nth-number) pre.weighed_below s (sym c.same.ensures ∙ c.if-same.false))
+    rw (c.min-else-same_stretch.ensures, held_z _ (region F k) c.region_of-z.ensures, c.at-outer.ensures.least, c.at-outer.ensures.around)
+    (weigh_other pre.with_stretches c.args.weights.least.now c.args.weights.around.now k c.nth-number.result pre.k_bound c.if-number-eq0.false (is-parent (goal.at.returns-else-same_stretch c).After-nth-number) pre.weighed_below s (sym c.same_stretch.ensures ∙ c.if-same_stretch.false))

@@ -2,11 +2,13 @@
 use Prim.Native.Nat.{ℕ}
 use native.Mathlib.Omega.{arith}
 use mathlib.Core.List.{List}
+use lib.ListN.{length-map}
+use Rattle.reduction.specs.declared.stretch.Stretch.{Stretch}
 use Rattle.reader.specs.Bytes.{IsBytes}
 use Rattle.reader.specs.Family.{family_of}
 use Rattle.reader.proofs.Accepting.{well_formed_lem}
 use Rattle.reduction.specs.Private.Passes.{WithParents, Ended}
-use Rattle.reduction.specs.Private.Steps.{Parented}
+use Rattle.reduction.specs.Private.Steps.{Parented, firsts_of, lasts_of}
 use Rattle.reduction.proofs.Stretching.ListFronts.{known_parents, lives_begin, firsts_begin, lasts_begin}
 use Rattle.reduction.proofs.stretch.find_stretches.Goals as goal
 use Rattle.reduction.proofs.stretch.find_stretches.Goals.{After-find_ends}
@@ -31,6 +33,6 @@ returns c =
     let w = (known c.args.file.now c.args.parents.now (λ i. omega (arith, c.type_inv.file i)) c.requires).formed in
     record {
       lives = lives_begin _ c.find_live.new.live (omega (arith, w.peptides_most)) c.find_live.ensures;
-      firsts = firsts_begin _ c.write_stretches.new.firsts (omega (arith, w.regions_most)) c.write_stretches.ensures.firsts_up_to;
-      lasts = lasts_begin _ c.write_stretches.new.lasts (omega (arith, w.regions_most)) c.write_stretches.ensures.lasts_up_to;
+      firsts = firsts_begin _ (firsts_of c.write_stretches.new.stretches) (omega (arith, w.regions_most, length-map c.write_stretches.new.stretches (λ (s : Stretch). s.first))) c.write_stretches.ensures.firsts_up_to;
+      lasts = lasts_begin _ (lasts_of c.write_stretches.new.stretches) (omega (arith, w.regions_most, length-map c.write_stretches.new.stretches (λ (s : Stretch). s.last))) c.write_stretches.ensures.lasts_up_to;
     }
