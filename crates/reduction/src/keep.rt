@@ -149,13 +149,7 @@ fn weigh_region(
 }
 
 // Writes the weights of every region.
-fn weigh(
-    file: &[u8],
-    parents: &[u16],
-    stretches: &[Stretch],
-    least: &mut [u16],
-    around: &mut [u16],
-)
+fn weigh(file: &[u8], parents: &[u16], stretches: &[Stretch], least: &mut [u16], around: &mut [u16])
     requires with_stretches { WithStretches (family_of file.now) (firsts_of stretches.now) (lasts_of stretches.now) }
     requires parents_below { ParentsBelow (family_of file.now) parents.now (region_count (family_of file.now)) }
     requires least_room { region_count (family_of file.now) ≤ length least.old }
@@ -186,7 +180,11 @@ fn kept_bound(
         return 0;
     }
     let z = nth(weights.least, k);
-    if z < nth(totals, k) && z < nth(weights.around, k) { z } else { 0 }
+    if z < nth(totals, k) && z < nth(weights.around, k) {
+        z
+    } else {
+        0
+    }
 }
 
 // Writes the z of each kept stretch at its innermost region, and 0 at every other region. From the last region to the
@@ -313,9 +311,17 @@ pub(crate) fn list_reduced(
     ensures { Listed file.now result from.new to.new bounds.new }
 {
     weigh(file, parents, stretches, from, to);
-    let weights = WeightsOf { least: from, around: to };
+    let weights = WeightsOf {
+        least: from,
+        around: to,
+    };
     mark_kept(file, bounds, stretches, weights, parents);
-    let mut ranges = Ranges { from, to, bounds, count: 0 };
+    let mut ranges = Ranges {
+        from,
+        to,
+        bounds,
+        count: 0,
+    };
     gather(file, live, stretches, parents, &mut ranges);
     ranges.count
 }

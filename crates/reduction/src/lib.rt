@@ -79,14 +79,7 @@ fn reduce_accepted(file: &[u8], parents: &mut [u16; 8191], out: &mut [u8]) -> Si
     let mut stretches = [Stretch { first: 0, last: 0 }; 8191];
     let mut from = [0u16; 8191];
     let mut to = [0u16; 8191];
-    find_stretches(
-        file,
-        parents,
-        &mut from,
-        &mut to,
-        &mut live,
-        &mut stretches,
-    );
+    find_stretches(file, parents, &mut from, &mut to, &mut live, &mut stretches);
     let mut zs = [0u16; 8191];
     live_totals(file, &live, &mut zs);
     let n = list_reduced(

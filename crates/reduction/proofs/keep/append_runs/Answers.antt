@@ -33,7 +33,7 @@ loop-p-preserved c =
     let inv = c.loop-p.invariant in
     let long = inv.as_long in
     elim c.if-begins_run.branch [
-      then-begins_run w ↦ let e = w.push.ensures in record {
+      | then-begins_run w ↦ let e = w.push.ensures in record {
         same_from = rw w.ranges-is (e.same_from ∙ inv.same_from);
         same_to = rw w.ranges-is (e.same_to ∙ inv.same_to);
         same_bounds = rw w.ranges-is (e.same_bounds ∙ inv.same_bounds);
@@ -44,7 +44,7 @@ loop-p-preserved c =
             (run_at F c.args.live.now pre.lives p c.peptide_count-peptides.result w.run_end-last.result.0 c.peptide_count-peptides.ensures (omega (arith, pre.positive)) (sym c.begins_run.ensures ∙ w.if-begins_run.true) w.run_end-last.ensures)
             (omega (arith, pre.firsts, long.0)) (omega (arith, pre.lasts, long.1)) (omega (arith, pre.bounds, long.2)));
       }
-    | else-begins_run w ↦ record {
+      | else-begins_run w ↦ record {
         same_from = rw w.ranges-is inv.same_from;
         same_to = rw w.ranges-is inv.same_to;
         same_bounds = rw w.ranges-is inv.same_bounds;

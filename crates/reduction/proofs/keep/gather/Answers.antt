@@ -80,32 +80,32 @@ loop-k-preserved c =
     let inv = c.loop-k.invariant in
     let well = pre.with_stretches.well_formed in
     elim c.if-z-ne0.branch [
-      then-z-ne0 w ↦
-        let a = w.append_runs.ensures in
-        let e = w.push.ensures in
-        let some : 1 ≤ get_or C k 0 = let z = w.if-z-ne0.true in omega (arith, c.nth-z.ensures) in
-        let first : w.stretch_at-stretch.result.first ≡ first_at F k = w.stretch_at-stretch.ensures.first ∙ pre.with_stretches.firsts k (omega arith) in
-        record {
-          same_from = rw w.ranges-is (e.same_from ∙ a.same_from ∙ inv.same_from);
-          same_to = rw w.ranges-is (e.same_to ∙ a.same_to ∙ inv.same_to);
-          same_bounds = rw w.ranges-is (e.same_bounds ∙ a.same_bounds ∙ inv.same_bounds);
-          as_long = rw (w.ranges-is, e.from, e.to, e.bounds) (simp length-set (a.as_long.0 ∙ inv.as_long.0, a.as_long.1 ∙ inv.as_long.1, a.as_long.2 ∙ inv.as_long.2));
-          passed = rw w.begin-is (passed_place well C pre.kept_marked k w.stretch_at-stretch.result.first (omega arith) some first);
-          gathered =
-              rw (w.begin-is, w.ranges-is, e.count, e.from, e.to, e.bounds)
-              (place_more well C pre.kept_marked k w.append_runs.new.ranges.count w.append_runs.new.ranges.from.now w.append_runs.new.ranges.to.now w.append_runs.new.ranges.bounds.now (omega arith) some
-              w.stretch_at-stretch.result.first w.stretch_at-stretch.result.last c.nth-z.result first (w.stretch_at-stretch.ensures.last ∙ pre.with_stretches.lasts k (omega arith)) c.nth-z.ensures (a.gathered (of_first F C k) inv.gathered)
-              (omega (arith, ahead.firsts, inv.as_long.0, a.as_long.0)) (omega (arith, ahead.lasts, inv.as_long.1, a.as_long.1)) (omega (arith, ahead.bounds, inv.as_long.2, a.as_long.2)));
-        }
-    | else-z-ne0 w ↦
-        record {
-          same_from = rw w.ranges-is inv.same_from;
-          same_to = rw w.ranges-is inv.same_to;
-          same_bounds = rw w.ranges-is inv.same_bounds;
-          as_long = rw w.ranges-is inv.as_long;
-          passed = rw w.begin-is (passed_skip well C pre.kept_marked k c.loop-k.begin inv.passed);
-          gathered = rw (w.begin-is, w.ranges-is) (skip_region well C pre.kept_marked k c.loop-k.begin c.loop-k.ranges.count _ _ _ (omega arith) inv.gathered (sym c.nth-z.ensures ∙ w.if-z-ne0.false));
-        }
+      | then-z-ne0 w ↦
+          let a = w.append_runs.ensures in
+          let e = w.push.ensures in
+          let some : 1 ≤ get_or C k 0 = let z = w.if-z-ne0.true in omega (arith, c.nth-z.ensures) in
+          let first : w.stretch_at-stretch.result.first ≡ first_at F k = w.stretch_at-stretch.ensures.first ∙ pre.with_stretches.firsts k (omega arith) in
+          record {
+            same_from = rw w.ranges-is (e.same_from ∙ a.same_from ∙ inv.same_from);
+            same_to = rw w.ranges-is (e.same_to ∙ a.same_to ∙ inv.same_to);
+            same_bounds = rw w.ranges-is (e.same_bounds ∙ a.same_bounds ∙ inv.same_bounds);
+            as_long = rw (w.ranges-is, e.from, e.to, e.bounds) (simp length-set (a.as_long.0 ∙ inv.as_long.0, a.as_long.1 ∙ inv.as_long.1, a.as_long.2 ∙ inv.as_long.2));
+            passed = rw w.begin-is (passed_place well C pre.kept_marked k w.stretch_at-stretch.result.first (omega arith) some first);
+            gathered =
+                rw (w.begin-is, w.ranges-is, e.count, e.from, e.to, e.bounds)
+                (place_more well C pre.kept_marked k w.append_runs.new.ranges.count w.append_runs.new.ranges.from.now w.append_runs.new.ranges.to.now w.append_runs.new.ranges.bounds.now (omega arith) some
+                w.stretch_at-stretch.result.first w.stretch_at-stretch.result.last c.nth-z.result first (w.stretch_at-stretch.ensures.last ∙ pre.with_stretches.lasts k (omega arith)) c.nth-z.ensures (a.gathered (of_first F C k) inv.gathered)
+                (omega (arith, ahead.firsts, inv.as_long.0, a.as_long.0)) (omega (arith, ahead.lasts, inv.as_long.1, a.as_long.1)) (omega (arith, ahead.bounds, inv.as_long.2, a.as_long.2)));
+          }
+      | else-z-ne0 w ↦
+          record {
+            same_from = rw w.ranges-is inv.same_from;
+            same_to = rw w.ranges-is inv.same_to;
+            same_bounds = rw w.ranges-is inv.same_bounds;
+            as_long = rw w.ranges-is inv.as_long;
+            passed = rw w.begin-is (passed_skip well C pre.kept_marked k c.loop-k.begin inv.passed);
+            gathered = rw (w.begin-is, w.ranges-is) (skip_region well C pre.kept_marked k c.loop-k.begin c.loop-k.ranges.count _ _ _ (omega arith) inv.gathered (sym c.nth-z.ensures ∙ w.if-z-ne0.false));
+          }
     ]
 
 pub returns-clause-listed : goal.returns-clause-listed

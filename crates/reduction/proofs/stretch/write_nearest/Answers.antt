@@ -1,7 +1,7 @@
 use Prim.Native.Nat.{◌≤◌, ◌<◌, ◌+◌}
 use native.Mathlib.Omega.{arith}
 use mathlib.Core.Path.{refl}
-use lib.ListN.{get_or, length, length-map}
+use lib.ListN.{get_or, length, length-map, length-set}
 use lib.Seq.{map-set}
 use Rattle.reduction.specs.declared.stretch.Stretch.{Stretch}
 use Rattle.reader.specs.Family.{family_of, region_count}
@@ -42,8 +42,9 @@ loop-k-preserved c =
     let h : k < region_count (family_of a.file.now) = omega arith in
     let z = held_z _ _ c.region_of-z.ensures in
     let s : Stretch = record { first = c.if_within.result; last = c.if_within-in-loop-k.result } in
-    let room : k < length c.loop-k.stretches = omega (arith, pre.ended.formed.regions_most) in
+    let room : k < length c.loop-k.stretches = omega (arith, inv.room, pre.ended.formed.regions_most) in
     record {
+      room = simp length-set inv.room;
       firsts =
           rw (map-set (λ (x : Stretch). x.first) c.loop-k.stretches k s)
           (more_stored (firsts_of c.loop-k.stretches) k _ (λ i. first_live _ (range_at _ i)) (omega (arith, length-map c.loop-k.stretches (λ (x : Stretch). x.first))) inv.firsts
