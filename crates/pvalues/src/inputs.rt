@@ -21,10 +21,8 @@ fn bad_p_values(p_values: &[u32]) -> bool
     ensures { result ≡ cause21 p_values.now }
 {
     let mut bad = false;
-    let mut i = 0;
-    while i < p_values.len() {
-        bad |= over_one(p_values[i]);
-        i += 1;
+    for p in p_values {
+        bad |= over_one(*p);
     }
     bad
 }

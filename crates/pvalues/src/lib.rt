@@ -10,9 +10,9 @@ mod writing;
 
 ghost use Rattle.pvalues.specs.Calls.{FromPAnswers, FromPWrites};
 
-use climbing::find_bounds;
 use inputs::from_p_cause;
-use writing::write_family;
+use ordering::order_by_p;
+use writing::write_from_p;
 
 // The file of the family with the given leaves and ranges, and for each region the z from its p-values, at the start of the output;
 // the answer is the number of the first cause that holds, 0 for none. p-values are whole millionths, the first that of peptide 1.
@@ -27,8 +27,15 @@ pub fn bounds_from_p(file: &[u8], p_values: &[u32], deviation_squared: u32, out:
     if cause != 0 {
         return cause;
     }
-    let mut bounds = [0u16; 8191];
-    find_bounds(file, &parents, p_values, deviation_squared, &mut bounds);
-    write_family(file, &bounds, out);
+    let mut order = [0u16; 4096];
+    order_by_p(p_values, &mut order);
+    write_from_p(
+        file,
+        &parents,
+        p_values,
+        deviation_squared,
+        &order[..p_values.len()],
+        out,
+    );
     0
 }
