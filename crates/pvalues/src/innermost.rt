@@ -46,7 +46,10 @@ pub(crate) fn fill_innermost(
         low += peptides_of(file, Leaf(passed), Leaf(before));
         passed = before;
         let size = peptides_of(file, Leaf(before), region.last);
-        regions[k as usize] = Lowering { left: size, z: size };
+        regions[k as usize] = Lowering {
+            left: size,
+            z: size,
+        };
         paint(innermost, Peptide(low), Peptide(low + size), k + 1);
     }
 }

@@ -42,7 +42,7 @@ fn passes(deviation_squared: u32, gap: u32, over: u16, v: u16) -> bool
     excess * excess <= (deviation_squared as u64) * (v as u64) * 1000000
 }
 
-// The largest z, up to the one given, that passes. 0 passes always.
+// The largest z, up to the one given, that passes. 0 passes always, so that a `find` would name a value for a case that cannot be.
 fn largest_passing(deviation_squared: u32, gap: u32, over: u16, z: u16) -> u16
     requires { (deviation_squared ≤ 100000000) × (gap ≤ 1000000) × (z ≤ 4096) }
     ensures { result ≡ largest_up_to z (from.passes deviation_squared gap over) }

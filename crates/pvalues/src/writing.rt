@@ -32,11 +32,9 @@ fn write_family(file: &[u8], regions: &[Lowering; 8191], out: &mut [u8])
     let start = 16 + 2 * (leaf_count(file) as usize);
     out[..start].copy_from_slice(&file[..start]);
     for k in 0..region_count(file) {
-        let region = Region {
-            z: regions[k as usize].z,
-            ..region_of(file, k)
-        };
-        put_region(out, start + 6 * (k as usize), region);
+        let given = region_of(file, k);
+        let z = regions[k as usize].z;
+        put_region(out, start + 6 * (k as usize), Region { z, ..given });
     }
 }
 

@@ -49,7 +49,7 @@ loop-k-init c =
 pub loop-k-preserved : goal.loop-k-preserved
 loop-k-preserved c =
     let k = c.loop-k.k in
-    let r = c.region_of.ensures in
+    let r = c.region_of-given.ensures in
     c.put_region.ensures
     ∙ rw (sym (z_read c.args.regions.now k)) (region_put (family_of c.args.file.now) (z_of_each c.args.regions.now) _ _ _ _ k _ _ (omega arith) c.loop-k.invariant refl (held_first _ _ r) (held_last _ _ r))
 
