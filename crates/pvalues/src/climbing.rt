@@ -16,7 +16,7 @@ use crate::lowering::Lowering;
 
 // One step of it, in the region of that number and in each around it. The parent is read first, as in the walk along a path.
 fn lower_regions(
-    parents: &[u16],
+    parents: &[u16; 8191],
     regions: &mut [Lowering; 8191],
     inner: u16,
     p: u32,
@@ -38,7 +38,7 @@ fn lower_regions(
 // Lowers the z of every region, given the peptides by rising p-value.
 pub(crate) fn find_bounds(
     file: &[u8],
-    parents: &[u16],
+    parents: &[u16; 8191],
     p_values: &[u32],
     deviation_squared: u32,
     order: &[u16],

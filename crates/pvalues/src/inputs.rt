@@ -57,9 +57,8 @@ pub(crate) fn from_p_cause(
     p_values: &[u32],
     deviation_squared: u32,
     room: usize,
-    parents: &mut [u16],
+    parents: &mut [u16; 8191],
 ) -> u16
-    requires { 8191 ≤ length parents.old }
     ensures { FromPJudged file.now p_values.now deviation_squared room parents.new result }
 {
     match reader::parents(file, parents) {

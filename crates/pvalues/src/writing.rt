@@ -43,7 +43,7 @@ fn write_family(file: &[u8], regions: &[Lowering; 8191], out: &mut [u8])
 #[inline(never)]
 pub(crate) fn write_from_p(
     file: &[u8],
-    parents: &[u16],
+    parents: &[u16; 8191],
     p_values: &[u32],
     deviation_squared: u32,
     order: &[u16],

@@ -10,11 +10,11 @@ pub returns-in-Family : goal.returns-in-Family
 returns-in-Family c =
     let s = c.args.file.now in
     let told = c.parents in
-    let a = learns_accepted s _ _ _ (c.in-Family.ensures.parents_answers ∙ enough_checked _ _ c.requires) in
-    judged_accepted s _ _ _ (λ i. omega (arith, c.type_inv.file i)) a.accepted c.args.parents.now told.new.out c.requires told.auto.out c.in-Family.ensures.parents_writes _ c.input_cause.ensures
+    let a = learns_accepted s _ _ _ (c.in-Family.ensures.parents_answers ∙ enough_checked c.args.file.now c.args.parents.now (omega (arith, c.told-parents))) in
+    judged_accepted s _ _ _ (λ i. omega (arith, c.type_inv.file i)) a.accepted c.args.parents.now told.new.out (omega (arith, c.told-parents)) told.auto.out c.in-Family.ensures.parents_writes _ c.input_cause.ensures
 
 pub returns-in-Refused : goal.returns-in-Refused
 returns-in-Refused c =
     let s = c.args.file.now in
-    let r = learns_refused s _ (c.in-Refused.ensures.parents_answers ∙ enough_checked _ _ c.requires) in
+    let r = learns_refused s _ (c.in-Refused.ensures.parents_answers ∙ enough_checked c.args.file.now c.args.parents.now (omega (arith, c.told-parents))) in
     judged_refused s _ _ _ c.parents.new.out _ r.0 r.1
