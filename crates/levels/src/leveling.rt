@@ -25,12 +25,8 @@ fn fill_levels(file: &[u8], levels: &mut [u16])
     requires { Parented (family_of file.now) levels.old }
     ensures { LevelsBelow (family_of file.now) levels.new (region_count (family_of file.now)) }
 {
-    let regions = region_count(file) as usize;
-    let mut k = 0;
-    while k < regions {
-        let parent = levels[k];
-        levels[k] = one_deeper(levels, parent);
-        k += 1;
+    for k in 0..region_count(file) as usize {
+        levels[k] = one_deeper(levels, levels[k]);
     }
 }
 

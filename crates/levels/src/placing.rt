@@ -17,10 +17,8 @@ pub(crate) fn bad_counts(file: &[u8]) -> bool
     ensures { result ≡ cause26 (counts_in file.now) (region_count (listed_family file.now)) }
 {
     let mut sum: u32 = 0;
-    let mut h = 0;
-    while h < 64 {
+    for h in 0..64 {
         sum += number_at(file, 16 + 2 * h) as u32;
-        h += 1;
     }
     sum != region_count(file) as u32
 }
@@ -28,14 +26,12 @@ pub(crate) fn bad_counts(file: &[u8]) -> bool
 // Writes each level at the place of its region: the first of them is that of the region that comes first in the order.
 pub(crate) fn place_levels(order: &[u16], levels: &[u16], placed: &mut [u16])
     requires order_in_bounds { length order.now ≤ length levels.now }
-    requires by_index { (k : ℕ) → In k order.now → k < length placed.old }
-    requires by_index_2 { (i j : ℕ) → i < j → j < length order.now → get_or order.now i 0 ≡ get_or order.now j 0 → get_or levels.now i 0 ≡ get_or levels.now j 0 }
+    requires in_placed { (k : ℕ) → In k order.now → k < length placed.old }
+    requires one_level { (i j : ℕ) → i < j → j < length order.now → get_or order.now i 0 ≡ get_or order.now j 0 → get_or levels.now i 0 ≡ get_or levels.now j 0 }
     ensures { (i : ℕ) → i < length order.now → get_or placed.new (get_or order.now i 0) 0 ≡ get_or levels.now i 0 }
 {
-    let mut i = 0;
-    while i < order.len() {
-        placed[order[i] as usize] = levels[i];
-        i += 1;
+    for (i, k) in order.iter().enumerate() {
+        placed[*k as usize] = levels[i];
     }
 }
 
@@ -50,8 +46,7 @@ fn wrong_in_level(file: &[u8], levels: &[u16], before: u16, start: u16, count: u
     ensures { result ≡ some_below count (λ i. misleveled (counts_in file.now) (listed_family file.now) before i) }
 {
     let mut leaf = 0;
-    let mut i = 0;
-    while i < count {
+    for i in 0..count {
         let k = start + i;
         if levels[k as usize] != before + 1 {
             return true;
@@ -62,7 +57,6 @@ fn wrong_in_level(file: &[u8], levels: &[u16], before: u16, start: u16, count: u
             return true;
         }
         leaf = first;
-        i += 1;
     }
     false
 }
@@ -76,14 +70,12 @@ pub(crate) fn wrong_levels(file: &[u8], levels: &[u16]) -> bool
     ensures { result ≡ some_below 64 (λ h. some_below (get_or (counts_in file.now) h 0) (λ i. misleveled (counts_in file.now) (listed_family file.now) h i)) }
 {
     let mut start: u16 = 0;
-    let mut h: u16 = 0;
-    while h < 64 {
+    for h in 0..64 {
         let count = number_at(file, 16 + 2 * (h as usize));
         if wrong_in_level(file, levels, h, start, count) {
             return true;
         }
         start += count;
-        h += 1;
     }
     false
 }

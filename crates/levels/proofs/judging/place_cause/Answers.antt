@@ -51,8 +51,8 @@ place_levels-requires c =
     let few = header_few s c.requires.distinct.headed in
     let nested = c.requires.nested in record {
       order_in_bounds = omega (arith, few, few_of _ _ c.requires.distinct, nested.room);
-      by_index = λ k i. omega (arith, few, numbers_of _ _ c.requires.distinct k i);
-      by_index_2 = λ i j l h e.
+      in_placed = λ k i. omega (arith, few, numbers_of _ _ c.requires.distinct k i);
+      one_level = λ i j l h e.
           nested.leveled refl i (omega arith)
           ∙ ap (λ (n : ℕ). level_of (distinct (listed_family s)) (region (listed_family s) n)) e
           ∙ sym (nested.leveled refl j h);

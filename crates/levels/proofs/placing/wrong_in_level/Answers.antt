@@ -18,7 +18,7 @@ here c = omega (arith, c.loop-i-test.true, c.requires.count_bound)
 
 pub loop-i-init : goal.loop-i-init
 loop-i-init c =
-    (omega arith, refl, none_below_zero _)
+    (refl, none_below_zero _)
 
 pub overflow_add-k : goal.overflow_add-k
 overflow_add-k c =
@@ -50,7 +50,7 @@ returns-then-first-leaf c =
     let F = listed_family a.file.now in
     sym (some_at _ a.count i (omega arith) (place_wrong (counts_in a.file.now) F a.before a.start c.requires.before_bound.2 i
     (regions_placed F c.requires.headed.1 (a.start + i) (here (goal.at.returns-then-first-leaf c).In-loop-i)).first_some
-    (omega (arith, c.if-first-leaf.true, held_first _ _ c.listed_region-region.ensures, c.loop-i.invariant.1))))
+    (omega (arith, c.if-first-leaf.true, held_first _ _ c.listed_region-region.ensures, c.loop-i.invariant.0))))
 
 pub loop-i-preserved : goal.loop-i-preserved
 loop-i-preserved c =
@@ -58,15 +58,14 @@ loop-i-preserved c =
     let i = c.loop-i.i in
     let F = listed_family a.file.now in
     let first = held_first _ _ c.listed_region-region.ensures in (
-      omega arith,
       first ∙ leaf_next F a.start i,
-      none_more _ i c.loop-i.invariant.2
+      none_more _ i c.loop-i.invariant.1
           (place_right (counts_in a.file.now) F a.before a.start c.requires.before_bound.2 i
           (sym (c.requires.levels_below (a.start + i) (here (goal.at.loop-i-preserved c).In-loop-i)) ∙ c.if-levels-k.false ∙ add-one a.before)
-          (omega (arith, c.if-first-leaf.false, first, c.loop-i.invariant.1))),
+          (omega (arith, c.if-first-leaf.false, first, c.loop-i.invariant.0))),
     )
 
 pub returns : goal.returns
 returns c =
     let end : c.loop-i.i ≡ c.args.count = omega arith in
-    sym (rw end at c.loop-i.invariant.2)
+    sym (rw end at c.loop-i.invariant.1)
