@@ -14,9 +14,8 @@ use crate::writing::{write_as_listed, write_listed};
 use reader::family::region_count;
 
 // The first of the causes 6 and 7 that holds, or 0.
-fn listing_cause(file: &[u8], plain: &mut [u8]) -> u16
+fn listing_cause(file: &[u8], plain: &mut [u8; 57354]) -> u16
     requires headed { Headed file.now }
-    requires in_bounds { 57354 ≤ length plain.old }
     ensures { result ≡ first_cause (listing_causes (listed_family file.now)) }
 {
     write_as_listed(file, plain);
@@ -26,10 +25,8 @@ fn listing_cause(file: &[u8], plain: &mut [u8]) -> u16
 
 // The first of the causes 9 and 10 that holds, or 0 with the level of each region of the order written. The buffer has the family file of
 // the regions in this order.
-fn nesting_cause(file: &[u8], order: &[u16], plain: &mut [u8], levels: &mut [u16]) -> u16
+fn nesting_cause(file: &[u8], order: &[u16], plain: &mut [u8; 57354], levels: &mut [u16; 8191]) -> u16
     requires distinct { Distinct file.now order.now }
-    requires in_bounds { 57354 ≤ length plain.old }
-    requires in_bounds_2 { 8191 ≤ length levels.old }
     ensures nested { Nested file.now order.now levels.new result }
     ensures plain { Plain file.now order.now plain.new }
 {
@@ -39,7 +36,7 @@ fn nesting_cause(file: &[u8], order: &[u16], plain: &mut [u8], levels: &mut [u16
 }
 
 // The first of the causes 16, 26 and 27 that holds, with an output of so many bytes, or 0.
-fn place_cause(file: &[u8], order: &[u16], levels: &[u16], room: usize) -> u16
+fn place_cause(file: &[u8], order: &[u16], levels: &[u16; 8191], room: usize) -> u16
     requires distinct { Distinct file.now order.now }
     requires nested { Nested file.now order.now levels.now 0 }
     ensures { result ≡ first_cause (room_and_places file.now room) }
@@ -59,9 +56,8 @@ fn place_cause(file: &[u8], order: &[u16], levels: &[u16], room: usize) -> u16
 }
 
 // The first cause after the header and 6 and 7 that holds, or 0 with the family file at the start of the buffer.
-fn family_cause(file: &[u8], room: usize, plain: &mut [u8]) -> u16
+fn family_cause(file: &[u8], room: usize, plain: &mut [u8; 57354]) -> u16
     requires headed { Headed file.now × Sound file.now }
-    requires in_bounds { 57354 ≤ length plain.old }
     ensures { FamilyJudged file.now room plain.new result }
 {
     let mut order = [0u16; 8191];
@@ -75,8 +71,7 @@ fn family_cause(file: &[u8], room: usize, plain: &mut [u8]) -> u16
 }
 
 // The first cause that holds, with an output of so many bytes, or 0 with the family file at the start of the buffer.
-pub(crate) fn listed_cause(file: &[u8], room: usize, plain: &mut [u8]) -> u16
-    requires { 57354 ≤ length plain.old }
+pub(crate) fn listed_cause(file: &[u8], room: usize, plain: &mut [u8; 57354]) -> u16
     ensures { ListedJudged file.now room plain.new result }
 {
     let header = header_cause(file);

@@ -31,8 +31,7 @@ fn fill_levels(file: &[u8], levels: &mut [u16])
 }
 
 // The first of the causes 1 to 10 that holds, or 0 with the levels written.
-pub(crate) fn find_levels(file: &[u8], levels: &mut [u16]) -> u16
-    requires { 8191 ≤ length levels.old }
+pub(crate) fn find_levels(file: &[u8], levels: &mut [u16; 8191]) -> u16
     ensures { Leveled file.now levels.new result }
 {
     match reader::parents(file, levels) {

@@ -37,12 +37,11 @@ pub(crate) fn place_levels(order: &[u16], levels: &[u16], placed: &mut [u16])
 
 // Some of the regions of a level, from the start-th one on and so many, has another level, or a first leaf that does not come after that
 // of the one before it.
-fn wrong_in_level(file: &[u8], levels: &[u16], before: u16, start: u16, count: u16) -> bool
+fn wrong_in_level(file: &[u8], levels: &[u16; 8191], before: u16, start: u16, count: u16) -> bool
     requires headed { Headed file.now × Placed file.now }
     requires levels_below { LevelsBelow (listed_family file.now) levels.now (region_count (listed_family file.now)) }
     requires before_bound { (before < 64) × (count ≡ get_or (counts_in file.now) before 0) × (start ≡ sum (take before (counts_in file.now))) }
     requires count_bound { start + count ≤ region_count (listed_family file.now) }
-    requires file_in_bounds { region_count (listed_family file.now) ≤ length levels.now }
     ensures { result ≡ some_below count (λ i. misleveled (counts_in file.now) (listed_family file.now) before i) }
 {
     let mut leaf = 0;
@@ -62,11 +61,10 @@ fn wrong_in_level(file: &[u8], levels: &[u16], before: u16, start: u16, count: u
 }
 
 // Some region's level or place in the level is not so, where the level counts add to K.
-pub(crate) fn wrong_levels(file: &[u8], levels: &[u16]) -> bool
+pub(crate) fn wrong_levels(file: &[u8], levels: &[u16; 8191]) -> bool
     requires headed { Headed file.now × Placed file.now }
     requires levels_below { LevelsBelow (listed_family file.now) levels.now (region_count (listed_family file.now)) }
-    requires file_in_bounds { region_count (listed_family file.now) ≤ length levels.now }
-    requires file_value { sum (counts_in file.now) ≡ region_count (listed_family file.now) }
+    requires adds_up { sum (counts_in file.now) ≡ region_count (listed_family file.now) }
     ensures { result ≡ some_below 64 (λ h. some_below (get_or (counts_in file.now) h 0) (λ i. misleveled (counts_in file.now) (listed_family file.now) h i)) }
 {
     let mut start: u16 = 0;

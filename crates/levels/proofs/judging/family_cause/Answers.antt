@@ -26,11 +26,11 @@ distinct-lent c =
 
 fits : (c : After-order_distinct-distinct) → c.order_distinct-distinct.result ≤ length c.order_distinct-distinct.new.order
 fits c =
-    omega (arith, c.order_distinct-distinct.ensures.value, order_few c.args.file.now c.requires.headed.1, header_few c.args.file.now c.requires.headed.0, c.order_distinct-distinct.auto.order)
+    omega (arith, c.order_distinct-distinct.ensures.value, order_few c.args.file.now c.requires.headed.1, header_few c.args.file.now c.requires.headed.0)
 
 pub order_distinct-distinct-requires : goal.order_distinct-distinct-requires
 order_distinct-distinct-requires c =
-    record { headed = (c.requires.headed.0, (listing_clear _ c.requires.headed.1).1); in_bounds = omega arith }
+    record { headed = (c.requires.headed.0, (listing_clear _ c.requires.headed.1).1) }
 
 pub slice_bounds-nesting_cause-end : goal.slice_bounds-nesting_cause-end
 slice_bounds-nesting_cause-end c =
@@ -38,7 +38,7 @@ slice_bounds-nesting_cause-end c =
 
 pub nesting_cause-nesting-requires : goal.nesting_cause-nesting-requires
 nesting_cause-nesting-requires c =
-    record { distinct = distinct-lent (goal.at.nesting_cause-nesting-requires c).After-order_distinct-distinct; in_bounds = c.requires.in_bounds; in_bounds_2 = omega arith }
+    record { distinct = distinct-lent (goal.at.nesting_cause-nesting-requires c).After-order_distinct-distinct }
 
 pub returns-then-nesting-ne0 : goal.returns-then-nesting-ne0
 returns-then-nesting-ne0 c =

@@ -14,7 +14,7 @@ returns-then-header-ne0 c =
 
 pub listing_cause-listing-requires : goal.listing_cause-listing-requires
 listing_cause-listing-requires c =
-    record { headed = sym c.header_cause-header.ensures ∙ c.if-header-ne0.false; in_bounds = c.requires }
+    record { headed = sym c.header_cause-header.ensures ∙ c.if-header-ne0.false }
 
 pub returns-then-listing-ne0 : goal.returns-then-listing-ne0
 returns-then-listing-ne0 c =
@@ -27,7 +27,7 @@ returns-then-listing-ne0 c =
 
 pub family_cause-requires : goal.family_cause-requires
 family_cause-requires c =
-    record { headed = (sym c.header_cause-header.ensures ∙ c.if-header-ne0.false, sym c.listing_cause-listing.ensures ∙ c.if-listing-ne0.false); in_bounds = omega (arith, c.requires, c.listing_cause-listing.auto.plain) }
+    record { headed = (sym c.header_cause-header.ensures ∙ c.if-header-ne0.false, sym c.listing_cause-listing.ensures ∙ c.if-listing-ne0.false) }
 
 pub returns : goal.returns
 returns c =

@@ -40,7 +40,7 @@ overflow_sub-left_out c =
 pub write_listed-requires : goal.write_listed-requires
 write_listed-requires c =
     let d = c.requires.distinct in
-    let h = header_facts _ d.headed in record { headed = d.headed; numbers = numbers_of _ _ d; order_len_bound = few_of _ _ d; order_in_bounds = omega (arith, few_of _ _ d, h.leaves_most, header_few _ d.headed, c.requires.in_bounds) }
+    let h = header_facts _ d.headed in record { headed = d.headed; numbers = numbers_of _ _ d; order_len_bound = few_of _ _ d; order_in_bounds = omega (arith, few_of _ _ d, h.leaves_most, header_few _ d.headed) }
 
 pub overflow_sub-file : goal.overflow_sub-file
 overflow_sub-file c =
@@ -52,7 +52,7 @@ overflow_sub-file-2 c =
 
 pub slice_bounds-find_levels-end : goal.slice_bounds-find_levels-end
 slice_bounds-find_levels-end c =
-    omega (arith, long (goal.at.slice_bounds-find_levels-end c).After-region_count, c.write_listed.auto.out, few_of _ _ c.requires.distinct, (header_facts _ c.requires.distinct.headed).leaves_most, header_few _ c.requires.distinct.headed, c.requires.in_bounds)
+    omega (arith, long (goal.at.slice_bounds-find_levels-end c).After-region_count, c.write_listed.auto.out, few_of _ _ c.requires.distinct, (header_facts _ c.requires.distinct.headed).leaves_most, header_few _ c.requires.distinct.headed)
 
 pub returns : goal.returns
 returns c =
@@ -61,7 +61,6 @@ returns c =
     let O = c.args.order.now in
     let is : take (end (goal.at.returns c).After-region_count - 0) c.write_listed.new.out ≡ file_of (arranged (listed_family s) O) =
     ap (λ (n : ℕ). take n c.write_listed.new.out) (sub-zero (end (goal.at.returns c).After-region_count) ∙ long (goal.at.returns c).After-region_count) ∙ plain (goal.at.returns c).After-write_listed in record {
-      nested = nesting_of s O d (λ i. omega (arith, c.type_inv.file i)) _ _ (subst (λ (l : List ℕ). Leveled l c.find_levels.new.levels c.find_levels.result) is c.find_levels.ensures)
-          (omega (arith, c.requires.in_bounds_2, c.find_levels.auto.levels));
+      nested = nesting_of s O d (λ i. omega (arith, c.type_inv.file i)) _ _ (subst (λ (l : List ℕ). Leveled l c.find_levels.new.levels c.find_levels.result) is c.find_levels.ensures);
       plain = plain (goal.at.returns c).After-write_listed;
     }

@@ -50,7 +50,7 @@ place_levels-requires c =
     let s = c.args.file.now in
     let few = header_few s c.requires.distinct.headed in
     let nested = c.requires.nested in record {
-      order_in_bounds = omega (arith, few, few_of _ _ c.requires.distinct, nested.room);
+      order_in_bounds = omega (arith, few, few_of _ _ c.requires.distinct);
       in_placed = λ k i. omega (arith, few, numbers_of _ _ c.requires.distinct k i);
       one_level = λ i j l h e.
           nested.leveled refl i (omega arith)
@@ -60,7 +60,7 @@ place_levels-requires c =
 
 pub wrong_levels-requires : goal.wrong_levels-requires
 wrong_levels-requires c =
-    let s = c.args.file.now in record { headed = (c.requires.distinct.headed, (listing_clear s c.requires.distinct.sound).1); levels_below = levels_placed _ _ c.requires.distinct (none-repeats (goal.at.wrong_levels-requires c).Else-order-region_count) c.args.levels.now c.place_levels.new.placed c.requires.nested c.place_levels.ensures; file_in_bounds = omega (arith, header_few s c.requires.distinct.headed, c.place_levels.auto.placed); file_value = counts_add _ _ (no26 (goal.at.wrong_levels-requires c).Else-bad_counts) }
+    let s = c.args.file.now in record { headed = (c.requires.distinct.headed, (listing_clear s c.requires.distinct.sound).1); levels_below = levels_placed _ _ c.requires.distinct (none-repeats (goal.at.wrong_levels-requires c).Else-order-region_count) c.args.levels.now c.place_levels.new.placed c.requires.nested c.place_levels.ensures; adds_up = counts_add _ _ (no26 (goal.at.wrong_levels-requires c).Else-bad_counts) }
 
 pub returns-then-wrong_levels : goal.returns-then-wrong_levels
 returns-then-wrong_levels c =

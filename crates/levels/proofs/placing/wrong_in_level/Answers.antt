@@ -26,7 +26,7 @@ overflow_add-k c =
 
 pub bounds-levels-k : goal.bounds-levels-k
 bounds-levels-k c =
-    omega (arith, here (goal.at.bounds-levels-k c).In-loop-i, c.requires.file_in_bounds)
+    omega (arith, here (goal.at.bounds-levels-k c).In-loop-i, header_few c.args.file.now c.requires.headed.0)
 
 pub overflow_add-before : goal.overflow_add-before
 overflow_add-before c =

@@ -24,7 +24,7 @@ loop-h-init c =
 
 pub wrong_in_level-requires : goal.wrong_in_level-requires
 wrong_in_level-requires c =
-    let p = c.requires in record { headed = p.headed; levels_below = p.levels_below; before_bound = (omega arith, count (goal.at.wrong_in_level-requires c).After-number_at-count, c.loop-h.invariant.0); count_bound = omega (arith, fits (goal.at.wrong_in_level-requires c).After-number_at-count, p.file_value); file_in_bounds = p.file_in_bounds }
+    let p = c.requires in record { headed = p.headed; levels_below = p.levels_below; before_bound = (omega arith, count (goal.at.wrong_in_level-requires c).After-number_at-count, c.loop-h.invariant.0); count_bound = omega (arith, fits (goal.at.wrong_in_level-requires c).After-number_at-count, p.adds_up) }
 
 pub returns-then-wrong_in_level : goal.returns-then-wrong_in_level
 returns-then-wrong_in_level c =
@@ -32,7 +32,7 @@ returns-then-wrong_in_level c =
 
 pub overflow_add-start : goal.overflow_add-start
 overflow_add-start c =
-    omega (arith, fits (goal.at.overflow_add-start c).After-number_at-count, c.requires.file_value, header_few c.args.file.now c.requires.headed.0)
+    omega (arith, fits (goal.at.overflow_add-start c).After-number_at-count, c.requires.adds_up, header_few c.args.file.now c.requires.headed.0)
 
 pub loop-h-preserved : goal.loop-h-preserved
 loop-h-preserved c =
