@@ -29,7 +29,7 @@ overflow_sub-needed c =
 pub slice_bounds-copy_from_slice-end-2 : goal.slice_bounds-copy_from_slice-end-2
 slice_bounds-copy_from_slice-end-2 c =
     let h = header_facts _ (ready (goal.at.slice_bounds-copy_from_slice-end-2 c).Else-cause-ne0).headed in
-    omega (arith, h.whole, h.leaves_most, header_few _ (ready (goal.at.slice_bounds-copy_from_slice-end-2 c).Else-cause-ne0).headed, c.listed_cause-cause.auto.plain)
+    omega (arith, h.whole, h.leaves_most, header_few _ (ready (goal.at.slice_bounds-copy_from_slice-end-2 c).Else-cause-ne0).headed)
 
 pub overflow_cast-length : goal.overflow_cast-length
 overflow_cast-length c =
@@ -42,7 +42,7 @@ returns c =
     let r = ready (goal.at.returns c).Else-cause-ne0 in
     let w =
     from_written s out r.headed (sym c.listed_cause-cause.ensures.first ∙ c.if-cause-ne0.false) r.as_many _ _ refl
-    (part_copied c.listed_cause-cause.new.plain out _ 0 _ 0 _ (length s - 128) (omega arith) (omega (arith, (header_facts s r.headed).whole, (header_facts s r.headed).leaves_most, header_few s r.headed, c.listed_cause-cause.auto.plain)) (omega arith) r.fits c.copy_from_slice.ensures.after
+    (part_copied c.listed_cause-cause.new.plain out _ 0 _ 0 _ (length s - 128) (omega arith) (omega (arith, (header_facts s r.headed).whole, (header_facts s r.headed).leaves_most, header_few s r.headed)) (omega arith) r.fits c.copy_from_slice.ensures.after
     ∙ ap (sets out 0) r.plain_is
     ∙ at_start_lem (family_file_of s) out (omega (arith, from_length s r.headed r.as_many, r.fits))) in
     record { from_levels_answers = w.0; from_levels_writes = w.1 }

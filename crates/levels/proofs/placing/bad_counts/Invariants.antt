@@ -7,4 +7,4 @@ use Rattle.levels.specs.Levels.{counts_in}
 use Rattle.levels.proofs.placing.bad_counts.Given as goal
 
 abbrev pub invariant-loop-h : goal.invariant-loop-h
-invariant-loop-h l = (l.sum ≤ 65535 * l.h) × (l.sum ≡ lists.sum (take l.h (counts_in l.file)))
+invariant-loop-h l = (l.sum ≤ 65535 * l.h) × (l.sum ≡ lists.sum (take l.h (counts_in l.list.file.now)))

@@ -14,4 +14,4 @@ abbrev pub wrong_in : List ℕ → ℕ → Bool
 wrong_in s h = some_below (get_or (counts_in s) h 0) (λ i. misleveled (counts_in s) (listed_family s) h i)
 
 abbrev pub invariant-loop-h : goal.invariant-loop-h
-invariant-loop-h l = (l.start ≡ sum (take l.h (counts_in l.file))) × (some_below l.h (wrong_in l.file) ≡ false)
+invariant-loop-h l = (l.start ≡ sum (take l.h (counts_in l.list.file.now))) × (some_below l.h (wrong_in l.list.file.now) ≡ false)
