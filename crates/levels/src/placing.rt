@@ -63,8 +63,8 @@ pub(crate) fn wrong_levels(list: &Listing, levels: &[u16; 8191]) -> bool
     requires adds_up { sum (counts_in list.now.file.now) ≡ region_count (listed list.now) }
     ensures { result ≡ some_below 64 (λ h. some_below (get_or (counts_in list.now.file.now) h 0) (λ i. misleveled (counts_in list.now.file.now) (listed list.now) h i)) }
 {
-    let mut start: u16 = 0;
-    for h in 0..64 {
+    let mut start = 0;
+    for h in 0u16..64 {
         let count = number_at(list.file, 16 + 2 * (h as usize));
         if wrong_in_level(list, levels, h, start, count) {
             return true;
