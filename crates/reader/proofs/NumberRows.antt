@@ -1,12 +1,12 @@
 -- Numbers written in a row over a list of bytes.
-use Prim.Native.Nat.{ℕ, suc, ◌+◌, ◌*◌, ◌/◌, ◌%◌, ◌<◌, ◌≤◌}
-use mathlib.Core.List.{List, [], ◌∷◌, ◌++◌}
+use Prim.Native.Nat.{ℕ, suc, ◌+◌, ◌-◌, ◌*◌, ◌/◌, ◌%◌, ◌<◌, ◌≤◌}
+use mathlib.Core.List.{List, [], ◌∷◌, ◌++◌, append_assoc}
 use mathlib.Core.Path.{◌≡◌, refl, sym, ap, ◌∙◌}
 use native.Mathlib.Nat.{add-zero}
 use native.Mathlib.Numerals.{add-one}
 use native.Mathlib.Omega.{arith}
 use lib.ListN.{length, get_or, take, drop, set, length-set, take-append-drop}
-use lib.Seq.{sets, length-sets, length-take-le, take-suc, set_out}
+use lib.Seq.{sets-eq, drop-drop, sets, length-sets, length-take-le, take-suc, set_out}
 use Rattle.reader.specs.Bytes.{bytes_of, with_numbers}
 use Rattle.reader.specs.Family.{Region, region_fields}
 use Rattle.reader.proofs.Files.{length_bytes}
@@ -42,6 +42,17 @@ module _ (out : List ℕ) (at : ℕ) where
   numbers_next ns i h =
       numbers_join (take i ns) (get_or ns i 0 ∷ []) (at + 2 * i) (omega (arith, length-take-le i ns (omega arith)))
       ∙ ap (with_numbers out at) (rw (add-one i) (sym (take-suc ns i 0 h)))
+
+  -- a number is its two bytes in the place of two
+  pub pair_put : (n : ℕ) (pair : List ℕ) → at + 2 ≤ length out → pair ≡ n % 256 ∷ n / 256 % 256 ∷ []
+      → take at out ++ (pair ++ drop (at + 2 - at) (drop at out)) ≡ with_numbers out at (n ∷ [])
+  unfolding with_numbers bytes_of
+  pair_put n pair h e =
+      let two : at + 2 - at ≡ 2 = omega arith in
+      ap (λ (l : List ℕ). take at out ++ (l ++ drop (at + 2 - at) (drop at out))) e
+      ∙ ap (λ (k : ℕ). take at out ++ n % 256 ∷ n / 256 % 256 ∷ drop k (drop at out)) two
+      ∙ ap (λ (l : List ℕ). take at out ++ n % 256 ∷ n / 256 % 256 ∷ l) (drop-drop 2 at out)
+      ∙ sym (sets-eq (n % 256 ∷ n / 256 % 256 ∷ []) out at h ∙ append_assoc (take at out) (n % 256 ∷ n / 256 % 256 ∷ []) (drop (at + 2) out))
 
   -- a number is the two stores of its bytes
   pub number_put : (n : ℕ) → n < 65536 → set (set out at (n % 256)) (at + 1) (n / 256) ≡ with_numbers out at (n ∷ [])
