@@ -25,18 +25,13 @@ fn fill_levels(file: &[u8], levels: &mut [u16])
     requires { Parented (family_of file.now) levels.old }
     ensures { LevelsBelow (family_of file.now) levels.new (region_count (family_of file.now)) }
 {
-    let regions = region_count(file) as usize;
-    let mut k = 0;
-    while k < regions {
-        let parent = levels[k];
-        levels[k] = one_deeper(levels, parent);
-        k += 1;
+    for k in 0..region_count(file) as usize {
+        levels[k] = one_deeper(levels, levels[k]);
     }
 }
 
 // The first of the causes 1 to 10 that holds, or 0 with the levels written.
-pub(crate) fn find_levels(file: &[u8], levels: &mut [u16]) -> u16
-    requires { 8191 ≤ length levels.old }
+pub(crate) fn find_levels(file: &[u8], levels: &mut [u16; 8191]) -> u16
     ensures { Leveled file.now levels.new result }
 {
     match reader::parents(file, levels) {

@@ -12,7 +12,7 @@ ghost use Rattle.levels.specs.Calls.{ToLevelsAnswers, ToLevelsWrites, FromLevels
 
 use judging::listed_cause;
 use leveling::find_levels;
-use writing::{copy_bytes, write_by_level};
+use writing::write_by_level;
 
 // The length of the file that was written, or the number of the first cause that holds.
 #[derive(Clone, Copy)]
@@ -52,7 +52,7 @@ pub fn from_levels(file: &[u8], out: &mut [u8]) -> Converted
         return Converted::Refused(cause);
     }
     let needed = file.len() - 128;
-    copy_bytes(&plain, 0, needed, out, 0);
+    out[0..needed].copy_from_slice(&plain[0..needed]);
     let length = needed as u16;
     Converted::Written(length)
 }

@@ -22,7 +22,7 @@ returns-then-out-needed c =
 
 pub write_by_level-requires : goal.write_by_level-requires
 write_by_level-requires c =
-    record { accepted = accepted (goal.at.write_by_level-requires c).Else-cause-ne0; levels_below = c.find_levels-cause.ensures.levels c.if-cause-ne0.false; in_bounds = omega (arith, c.find_levels-cause.auto.levels); file_in_bounds = c.if-out-needed.false }
+    record { accepted = accepted (goal.at.write_by_level-requires c).Else-cause-ne0; levels_below = c.find_levels-cause.ensures.levels c.if-cause-ne0.false; file_in_bounds = c.if-out-needed.false }
 
 pub overflow_cast-length : goal.overflow_cast-length
 overflow_cast-length c =

@@ -7,7 +7,6 @@ use mathlib.Core.Path.{sym, subst, ◌∙◌}
 use lib.ListN.{length, take}
 use Rattle.levels.specs.Private.Judging.{Distinct, Nested, Plain}
 use Rattle.levels.proofs.Files.Listed.{header_few}
-use Rattle.levels.proofs.Calls.LevelCauses.{listing_clear}
 use Rattle.levels.proofs.Calls.Judging.{order_few}
 use Rattle.levels.proofs.judging.family_cause.Goals as goal
 use Rattle.levels.proofs.judging.family_cause.Goals.{After-order_distinct-distinct}
@@ -16,21 +15,17 @@ use Rattle.levels.proofs.judging.family_cause.Goals.{After-order_distinct-distin
 abbrev lent : After-order_distinct-distinct → List ℕ
 lent c = take (c.order_distinct-distinct.result - 0) c.order_distinct-distinct.new.order
 
-distinct-lent : (c : After-order_distinct-distinct) → Distinct c.args.file.now (lent c)
+distinct-lent : (c : After-order_distinct-distinct) → Distinct c.args.list.now.file.now (lent c)
 distinct-lent c =
     record {
-      headed = c.requires.headed.0;
-      sound = c.requires.headed.1;
+      headed = c.args.list.now.headed;
+      sound = c.args.list.now.sound;
       order_is = rw (sub-zero c.order_distinct-distinct.result) c.order_distinct-distinct.ensures.order_after;
     }
 
 fits : (c : After-order_distinct-distinct) → c.order_distinct-distinct.result ≤ length c.order_distinct-distinct.new.order
 fits c =
-    omega (arith, c.order_distinct-distinct.ensures.value, order_few c.args.file.now c.requires.headed.1, header_few c.args.file.now c.requires.headed.0, c.order_distinct-distinct.auto.order)
-
-pub order_distinct-distinct-requires : goal.order_distinct-distinct-requires
-order_distinct-distinct-requires c =
-    record { headed = (c.requires.headed.0, (listing_clear _ c.requires.headed.1).1); in_bounds = omega arith }
+    omega (arith, c.order_distinct-distinct.ensures.value, order_few c.args.list.now.file.now c.args.list.now.sound, header_few c.args.list.now.file.now c.args.list.now.headed)
 
 pub slice_bounds-nesting_cause-end : goal.slice_bounds-nesting_cause-end
 slice_bounds-nesting_cause-end c =
@@ -38,7 +33,7 @@ slice_bounds-nesting_cause-end c =
 
 pub nesting_cause-nesting-requires : goal.nesting_cause-nesting-requires
 nesting_cause-nesting-requires c =
-    record { distinct = distinct-lent (goal.at.nesting_cause-nesting-requires c).After-order_distinct-distinct; in_bounds = c.requires.in_bounds; in_bounds_2 = omega arith }
+    distinct-lent (goal.at.nesting_cause-nesting-requires c).After-order_distinct-distinct
 
 pub returns-then-nesting-ne0 : goal.returns-then-nesting-ne0
 returns-then-nesting-ne0 c =
@@ -55,11 +50,11 @@ slice_bounds-place_cause-end c =
 
 pub place_cause-requires : goal.place_cause-requires
 place_cause-requires c =
-    record { distinct = distinct-lent (goal.at.place_cause-requires c).After-order_distinct-distinct; nested = subst (λ (r : ℕ). Nested c.args.file.now (lent (goal.at.place_cause-requires c).After-order_distinct-distinct) c.nesting_cause-nesting.new.levels r) c.if-nesting-ne0.false c.nesting_cause-nesting.ensures.nested }
+    record { distinct = distinct-lent (goal.at.place_cause-requires c).After-order_distinct-distinct; nested = subst (λ (r : ℕ). Nested c.args.list.now.file.now (lent (goal.at.place_cause-requires c).After-order_distinct-distinct) c.nesting_cause-nesting.new.levels r) c.if-nesting-ne0.false c.nesting_cause-nesting.ensures.nested }
 
 pub returns : goal.returns
 returns c =
-    let s = c.args.file.now in
+    let s = c.args.list.now.file.now in
     let nested = c.nesting_cause-nesting.ensures in
     record {
       first_nesting = λ h. absurd (h (sym nested.nested.first ∙ c.if-nesting-ne0.false));

@@ -1,5 +1,4 @@
 -- The header, then 6 and 7, then the rest.
-use native.Mathlib.Omega.{arith}
 use mathlib.Core.Path.{sym, ◌∙◌}
 use Rattle.levels.proofs.Calls.Judging.{first_header, first_listing, judged_whole}
 use Rattle.levels.proofs.judging.listed_cause.Goals as goal
@@ -14,7 +13,7 @@ returns-then-header-ne0 c =
 
 pub listing_cause-listing-requires : goal.listing_cause-listing-requires
 listing_cause-listing-requires c =
-    record { headed = sym c.header_cause-header.ensures ∙ c.if-header-ne0.false; in_bounds = c.requires }
+    record { headed = sym c.header_cause-header.ensures ∙ c.if-header-ne0.false }
 
 pub returns-then-listing-ne0 : goal.returns-then-listing-ne0
 returns-then-listing-ne0 c =
@@ -24,10 +23,6 @@ returns-then-listing-ne0 c =
       first = c.listing_cause-listing.ensures ∙ sym (first_listing s c.args.room headed (λ z. c.if-listing-ne0.true (c.listing_cause-listing.ensures ∙ z)));
       done = λ z. absurd (c.if-listing-ne0.true z);
     }
-
-pub family_cause-requires : goal.family_cause-requires
-family_cause-requires c =
-    record { headed = (sym c.header_cause-header.ensures ∙ c.if-header-ne0.false, sym c.listing_cause-listing.ensures ∙ c.if-listing-ne0.false); in_bounds = omega (arith, c.requires, c.listing_cause-listing.auto.plain) }
 
 pub returns : goal.returns
 returns c =

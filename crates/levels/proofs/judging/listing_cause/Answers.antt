@@ -25,7 +25,7 @@ plain c =
 
 pub write_as_listed-requires : goal.write_as_listed-requires
 write_as_listed-requires c =
-    let h = header_facts _ c.requires.headed in record { headed = c.requires.headed; file_in_bounds = omega (arith, h.whole, h.leaves_most, header_few _ c.requires.headed, c.requires.in_bounds) }
+    let h = header_facts _ c.requires.headed in record { headed = c.requires.headed; file_in_bounds = omega (arith, h.whole, h.leaves_most, header_few _ c.requires.headed) }
 
 pub overflow_sub-file : goal.overflow_sub-file
 overflow_sub-file c =
@@ -33,7 +33,7 @@ overflow_sub-file c =
 
 pub slice_bounds-listing_cause-end : goal.slice_bounds-listing_cause-end
 slice_bounds-listing_cause-end c =
-    let h = header_facts _ c.requires.headed in omega (arith, h.whole, h.leaves_most, header_few _ c.requires.headed, c.requires.in_bounds, c.write_as_listed.auto.out)
+    let h = header_facts _ c.requires.headed in omega (arith, h.whole, h.leaves_most, header_few _ c.requires.headed, c.write_as_listed.auto.out)
 
 pub returns : goal.returns
 returns c =
