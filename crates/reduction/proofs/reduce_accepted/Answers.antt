@@ -12,9 +12,7 @@ find_stretches-requires c =
 
 pub list_reduced-n-requires : goal.list_reduced-n-requires
 list_reduced-n-requires c =
-    let s = c.args.file.now in
-    let few = few_regions s (accepted_header s c.requires.parented.accepted) in
-    let found = c.find_stretches in record { parented = c.requires.parented; totalled = c.live_totals.ensures; stretched = found.ensures; from_room = omega (arith, found.auto.lows); to_room = omega (arith, found.auto.highs); bounds_room = omega (arith, c.live_totals.auto.totals) }
+    record { parented = c.requires.parented; totalled = c.live_totals.ensures; stretched = c.find_stretches.ensures }
 
 pub write_reduced-requires : goal.write_reduced-requires
 write_reduced-requires c =
