@@ -117,10 +117,5 @@ pub fn same(first: &[u8], second: &[u8]) -> Result<bool, PairRefusal>
     reader::parents(first, &mut first_parents).map_err(PairRefusal::First)?;
     let mut second_parents = [0u16; 8191];
     reader::parents(second, &mut second_parents).map_err(PairRefusal::Second)?;
-    Ok(same_reduced(
-        first,
-        &mut first_parents,
-        second,
-        &mut second_parents,
-    ))
+    Ok(same_reduced(first, &mut first_parents, second, &mut second_parents))
 }
