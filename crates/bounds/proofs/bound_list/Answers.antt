@@ -2,7 +2,7 @@
 use Prim.Native.Nat.{ℕ, ◌+◌}
 use native.Mathlib.Omega.{arith}
 use mathlib.Core.Path.{◌≡◌, sym, ap, ◌∙◌}
-use lib.ListN.{length, drop, length-append, length-drop}
+use lib.ListN.{length}
 use lib.Seq.{length-take-le}
 use Rattle.reader.specs.Family.{family_of, region_count}
 use Rattle.reader.specs.Causes.{first_cause}
@@ -41,12 +41,6 @@ pub overflow_add-result : goal.overflow_add-result
 overflow_add-result c =
     let n = no_list_cause _ _ _ _ _ (clear (goal.at.overflow_add-result c).In-Ok) in
     record { fits = omega (arith, n.fits, charge_is (goal.at.overflow_add-result c).After-charge_of-charge) }
-
-pub shape_of-values : goal.shape_of-values
-shape_of-values c =
-    let n = no_list_cause _ _ _ _ _ (clear (goal.at.shape_of-values c).In-Ok) in
-    let values = c.args.values.now in
-    omega (arith, length-append c.write_bounds.new.values (drop c.args.count values), length-drop c.args.count values, length-take-le c.args.count values n.room, c.write_bounds.auto.values, n.room)
 
 pub returns-in-Ok : goal.returns-in-Ok
 returns-in-Ok c =

@@ -29,10 +29,6 @@ returns-then-marks-path c =
     let done = curve_short c.args.file.now c.args.path.now c.args.values.now c.args.marks.now c.in_ok-check_path.ensures.0 (or_r (short (length a.path.now + 1) (length a.values.now)) _ (lt-ltb (length a.marks.now) (length a.path.now) c.if-marks-path.true)) in
     record { curve_answers = done.0; curve_values_writes = done.1.0; curve_marks_writes = done.1.1.0; curve_declines = done.1.1.1 }
 
-pub write_curve-requires : goal.write_curve-requires
-write_curve-requires c =
-    record { walkable = c.in_ok-check_path.ensures.1; values_room = omega (arith, c.if-values-path.false); marks_room = c.if-marks-path.false }
-
 pub returns : goal.returns
 unfolding short
 returns c =

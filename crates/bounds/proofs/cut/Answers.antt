@@ -21,10 +21,6 @@ unfolding cause15
 returns-then-b-a c =
     cut_no_fraction _ _ _ _ c.in_ok-check_path.ensures.0 (or_r (eqb c.args.b 0) _ (lt-ltb c.args.b c.args.a c.if-b-a.true))
 
-pub find_cut-requires : goal.find_cut-requires
-find_cut-requires c =
-    c.in_ok-check_path.ensures.1
-
 pub returns : goal.returns
 unfolding cause15
 returns c =
