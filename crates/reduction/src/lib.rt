@@ -98,8 +98,8 @@ fn same_reduced(
     second: &[u8],
     second_parents: &mut [u16; 8191],
 ) -> bool
-    requires parented { Parented first.now first_parents.old }
-    requires parented_2 { Parented second.now second_parents.old }
+    requires first_parented { Parented first.now first_parents.old }
+    requires second_parented { Parented second.now second_parents.old }
     ensures { result ≡ same_list (reduced_file first.now) (reduced_file second.now) }
 {
     let mut one = [0u8; 57354];

@@ -1,7 +1,6 @@
 -- The causes of the first file, then those of the second, then the comparison.
 use native.Mathlib.Omega.{arith}
-use mathlib.Core.Path.{◌≡◌, sym, ap, subst, ◌∙◌}
-use Rattle.std.specs.Prelude.{Ok, Err}
+use mathlib.Core.Path.{subst}
 use Rattle.std.proofs.lemmas.Result.{err_from_is_err_and}
 use Rattle.reader.specs.Calls.{ParentsAnswers}
 use Rattle.reader.specs.Causes.{Accepted}
@@ -41,10 +40,9 @@ returns-in_err-map_err-2 c =
 pub same_reduced-requires : goal.same_reduced-requires
 same_reduced-requires c =
     let at = goal.at.same_reduced-requires c in
-    let first = mapped_ok First _ c.map_err.result _ c.map_err.ensures.cases c.in_ok-map_err.was in
     record {
-      parented = parents_there c.args.first.now _ (omega arith) c.parents.new.out (first_accepted at.In_ok-map_err) c.parents.ensures.parents_writes;
-      parented_2 = parents_there c.args.second.now _ (omega arith) c.parents-2.new.out (second_accepted at.In_ok-map_err-2) c.parents-2.ensures.parents_writes;
+      first_parented = parents_there c.args.first.now _ (omega arith) c.parents.new.out (first_accepted at.In_ok-map_err) c.parents.ensures.parents_writes;
+      second_parented = parents_there c.args.second.now _ (omega arith) c.parents-2.new.out (second_accepted at.In_ok-map_err-2) c.parents-2.ensures.parents_writes;
     }
 
 pub returns : goal.returns
