@@ -5,7 +5,7 @@ ghost use Rattle.reader.specs.WellFormed.{ParentsBelow};
 ghost use Rattle.bounds.specs.Ranges.{Range};
 ghost use Rattle.bounds.specs.Selections.{selected};
 ghost use Rattle.reduction.specs.Private.Steps.{Parented, Stretched, firsts_of, lasts_of, Totalled, Listed};
-ghost use Rattle.reduction.specs.Private.Keeping.{WithStretches, same_ends, first_at, Weighed, WeighedBelow, TotalsBelow, counted, kept_bound, KeptMarked, begins_run, RunTo, Gathered, RunsAhead, SomeGathered, AsLong};
+ghost use Rattle.reduction.specs.Private.Keeping.{WithStretches, same_ends, first_at, Weighed, WeighedBelow, TotalsBelow, counted, kept_bound, KeptMarked, begins_run, RunTo, GatheredIn, RunsAhead, SomeGathered, Whole, SameArrays};
 
 use crate::stretch::Stretch;
 use reader::family::{Peptide, peptide_count, region_count, region_of};
@@ -90,13 +90,10 @@ impl WeightsOf<'_> {
 impl Ranges<'_> {
     // Writes one range more.
     fn push(&mut self, from: u16, to: u16, bound: u16)
+        requires whole { Whole self.old }
         requires few { self.old.count < 8191 }
-        requires from_room { self.old.count < length self.old.from.now }
-        requires to_room { self.old.count < length self.old.to.now }
-        requires bounds_room { self.old.count < length self.old.bounds.now }
-        ensures same_from { self.new.from.ghost_name ≡ self.old.from.ghost_name }
-        ensures same_to { self.new.to.ghost_name ≡ self.old.to.ghost_name }
-        ensures same_bounds { self.new.bounds.ghost_name ≡ self.old.bounds.ghost_name }
+        ensures whole { Whole self.new }
+        ensures same_arrays { SameArrays self.old self.new }
         ensures from { self.new.from.now ≡ set self.old.from.now self.old.count from }
         ensures to { self.new.to.now ≡ set self.old.to.now self.old.count to }
         ensures bounds { self.new.bounds.now ≡ set self.old.bounds.now self.old.count bound }
@@ -149,11 +146,15 @@ fn weigh_region(
 }
 
 // Writes the weights of every region.
-fn weigh(file: &[u8], parents: &[u16], stretches: &[Stretch], least: &mut [u16], around: &mut [u16])
+fn weigh(
+    file: &[u8],
+    parents: &[u16],
+    stretches: &[Stretch],
+    least: &mut [u16; 8191],
+    around: &mut [u16; 8191],
+)
     requires with_stretches { WithStretches (family_of file.now) (firsts_of stretches.now) (lasts_of stretches.now) }
     requires parents_below { ParentsBelow (family_of file.now) parents.now (region_count (family_of file.now)) }
-    requires least_room { region_count (family_of file.now) ≤ length least.old }
-    requires around_room { region_count (family_of file.now) ≤ length around.old }
     ensures { WeighedBelow (family_of file.now) least.new around.new (region_count (family_of file.now)) }
 {
     let regions = region_count(file);
@@ -247,13 +248,12 @@ fn run_end(live: &[u8], first: Peptide, peptides: u16) -> Peptide
 // Lists the runs that begin from one peptide on, before another. The promise holds for any choice of stretches listed so
 // far, if these begin before the first peptide named.
 fn append_runs(file: &[u8], live: &[u8], begin: u16, end: u16, ranges: &mut Ranges)
-    requires runs_ahead { RunsAhead (family_of file.now) live.now begin end ranges.old.from.now ranges.old.to.now ranges.old.bounds.now }
-    requires some_gathered { SomeGathered (family_of file.now) begin ranges.old.count ranges.old.from.now ranges.old.to.now ranges.old.bounds.now }
-    ensures same_from { ranges.new.from.ghost_name ≡ ranges.old.from.ghost_name }
-    ensures same_to { ranges.new.to.ghost_name ≡ ranges.old.to.ghost_name }
-    ensures same_bounds { ranges.new.bounds.ghost_name ≡ ranges.old.bounds.ghost_name }
-    ensures as_long { AsLong ranges.old ranges.new }
-    ensures gathered { (t : Range → Bool) → Gathered (family_of file.now) t begin ranges.old.count ranges.old.from.now ranges.old.to.now ranges.old.bounds.now → Gathered (family_of file.now) t end ranges.new.count ranges.new.from.now ranges.new.to.now ranges.new.bounds.now }
+    requires whole { Whole ranges.old }
+    requires runs_ahead { RunsAhead (family_of file.now) live.now begin end }
+    requires some_gathered { SomeGathered (family_of file.now) begin ranges.old }
+    ensures whole { Whole ranges.new }
+    ensures same_arrays { SameArrays ranges.old ranges.new }
+    ensures gathered { (t : Range → Bool) → GatheredIn (family_of file.now) t begin ranges.old → GatheredIn (family_of file.now) t end ranges.new }
 {
     let peptides = peptide_count(file);
     for p in begin..end {
@@ -269,11 +269,10 @@ fn append_runs(file: &[u8], live: &[u8], begin: u16, end: u16, ranges: &mut Rang
 fn gather(file: &[u8], live: &[u8], stretches: &[Stretch], kept: &[u16], ranges: &mut Ranges)
     requires with_stretches { WithStretches (family_of file.now) (firsts_of stretches.now) (lasts_of stretches.now) }
     requires kept_marked { KeptMarked (family_of file.now) kept.now 0 }
+    requires runs_ahead { RunsAhead (family_of file.now) live.now 1 ((family_of file.now).peptides + 1) }
+    requires whole { Whole ranges.old }
     requires none_yet { ranges.old.count ≡ 0 }
-    requires runs_ahead { RunsAhead (family_of file.now) live.now 1 ((family_of file.now).peptides + 1) ranges.old.from.now ranges.old.to.now ranges.old.bounds.now }
-    ensures same_from { ranges.new.from.ghost_name ≡ ranges.old.from.ghost_name }
-    ensures same_to { ranges.new.to.ghost_name ≡ ranges.old.to.ghost_name }
-    ensures same_bounds { ranges.new.bounds.ghost_name ≡ ranges.old.bounds.ghost_name }
+    ensures same_arrays { SameArrays ranges.old ranges.new }
     ensures listed { Listed file.now ranges.new.count ranges.new.from.now ranges.new.to.now ranges.new.bounds.now }
 {
     let mut begin = 1;
@@ -298,16 +297,13 @@ pub(crate) fn list_reduced(
     parents: &mut [u16],
     live: &[u8],
     stretches: &[Stretch],
-    from: &mut [u16],
-    to: &mut [u16],
-    bounds: &mut [u16],
+    from: &mut [u16; 8191],
+    to: &mut [u16; 8191],
+    bounds: &mut [u16; 8191],
 ) -> u16
     requires parented { Parented file.now parents.old }
     requires totalled { Totalled file.now bounds.old }
     requires stretched { Stretched file.now live.now (firsts_of stretches.now) (lasts_of stretches.now) }
-    requires from_room { region_count (family_of file.now) ≤ length from.old }
-    requires to_room { region_count (family_of file.now) ≤ length to.old }
-    requires bounds_room { region_count (family_of file.now) ≤ length bounds.old }
     ensures { Listed file.now result from.new to.new bounds.new }
 {
     weigh(file, parents, stretches, from, to);

@@ -18,9 +18,10 @@ use Rattle.bounds.specs.Ranges.{Range, Peptides, ranges_of, those, In}
 use Rattle.bounds.specs.Selections.{selected}
 use Rattle.bounds.proofs.Basics.Members.{test, clash, refuted, and_l, and_r, and_both, or_l, or_r, or_either, both_ways, in_append, in_those, those_in, those_same, le_or_lt}
 use Rattle.bounds.proofs.Theory.Family.{ranges_length}
+use Rattle.reduction.specs.declared.keep.Ranges.{Ranges}
 use Rattle.reduction.specs.Reduction.{piece, live}
 use Rattle.reduction.specs.Private.Steps.{Begins, live_bytes, reduced_ranges, Listed}
-use Rattle.reduction.specs.Private.Keeping.{first_at, last_at, SameStretch, Keeps, KeptMarked, begins_run, RunTo, of_first, with_runs, Gathered, Passed}
+use Rattle.reduction.specs.Private.Keeping.{first_at, last_at, SameStretch, Keeps, KeptMarked, begins_run, RunTo, of_first, with_runs, Gathered, Passed, SameArrays}
 use Rattle.reduction.proofs.Basics.Unless.{lt_unless}
 use Rattle.reduction.proofs.Basics.Grid.{Precedes, FileOrder, append_l, append_r, those_ordered, ordered_same}
 use Rattle.reduction.proofs.Theory.Stretches.{stretches_facts}
@@ -31,6 +32,11 @@ use Rattle.reduction.proofs.Theory.Smallest.{reduced_count}
 use Rattle.reduction.proofs.Keeping.HandedOn.{lives_same}
 use Rattle.reduction.proofs.Keeping.StretchPlaces.{stretch_of, bound_some, stretch_order}
 use Rattle.reduction.proofs.Keeping.Marking.{keeps_reduced, reduced_kept}
+
+-- Arrays that stay the same.
+
+pub same_trans : {a b c : Ranges} → SameArrays a b → SameArrays b c → SameArrays a c
+same_trans h i = record { from = i.from ∙ h.from; to = i.to ∙ h.to; bounds = i.bounds ∙ h.bounds }
 
 -- Lists.
 

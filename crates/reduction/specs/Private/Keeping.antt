@@ -124,20 +124,29 @@ pub record Passed (F : Family) (C : List ℕ) (k q : ℕ) : Type 0 where
   pub after : (i : ℕ) → k ≤ i → i < region_count F → 1 ≤ get_or C i 0 → q ≤ first_at F i + 1
 
 -- what is known where the runs that begin from q on, before e, are listed
-pub record RunsAhead (F : Family) (X : List ℕ) (q e : ℕ) (A B Z : List ℕ) : Type 0 where
+pub record RunsAhead (F : Family) (X : List ℕ) (q e : ℕ) : Type 0 where
   pub lives : Begins (live_bytes F) X
   pub positive : 1 ≤ q
   pub order : q ≤ e
   pub small : e ≤ F.peptides + 1
   pub few : region_count F ≤ 8191
-  pub firsts : region_count F ≤ length A
-  pub lasts : region_count F ≤ length B
-  pub bounds : region_count F ≤ length Z
 
--- these n ranges are listed, with some choice of stretches
-abbrev pub SomeGathered : Family → ℕ → ℕ → List ℕ → List ℕ → List ℕ → Type 0
-SomeGathered F q n A B Z = (t : Range → Bool) × Gathered F t q n A B Z
+-- they are the ranges listed so far
+abbrev pub GatheredIn : Family → (Range → Bool) → ℕ → Ranges → Type 0
+GatheredIn F t q r = Gathered F t q r.count r.from.now r.to.now r.bounds.now
 
--- the places of the ranges are as long as before
-abbrev pub AsLong : Ranges → Ranges → Type 0
-AsLong old new = (length new.from.now ≡ length old.from.now) × (length new.to.now ≡ length old.to.now) × (length new.bounds.now ≡ length old.bounds.now)
+-- for some choice of stretches
+abbrev pub SomeGathered : Family → ℕ → Ranges → Type 0
+SomeGathered F q r = (t : Range → Bool) × GatheredIn F t q r
+
+-- each of its arrays has 8191 places, as many as there can be regions
+pub record Whole (r : Ranges) : Type 0 where
+  pub from : length r.from.now ≡ 8191
+  pub to : length r.to.now ≡ 8191
+  pub bounds : length r.bounds.now ≡ 8191
+
+-- it is the same three arrays that are written
+pub record SameArrays (old new : Ranges) : Type 0 where
+  pub from : new.from.ghost_name ≡ old.from.ghost_name
+  pub to : new.to.ghost_name ≡ old.to.ghost_name
+  pub bounds : new.bounds.ghost_name ≡ old.bounds.ghost_name

