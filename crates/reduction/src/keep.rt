@@ -4,18 +4,11 @@ ghost use Rattle.reader.specs.Family.{family_of, region_count};
 ghost use Rattle.reader.specs.WellFormed.{ParentsBelow};
 ghost use Rattle.bounds.specs.Ranges.{Range};
 ghost use Rattle.bounds.specs.Selections.{selected};
-ghost use Rattle.reduction.specs.Private.Steps.{Parented, Stretched, Totalled, Listed};
+ghost use Rattle.reduction.specs.Private.Steps.{Parented, Stretched, firsts_of, lasts_of, Totalled, Listed};
 ghost use Rattle.reduction.specs.Private.Keeping.{WithStretches, same_ends, first_at, Weighed, WeighedBelow, TotalsBelow, counted, kept_bound, KeptMarked, begins_run, RunTo, GatheredIn, RunsAhead, SomeGathered, Whole, SameArrays};
 
+use crate::stretch::Stretch;
 use reader::family::{Peptide, peptide_count, region_count, region_of};
-
-// The stretch of each region: its first peptide and its last one, both 0 where there is none. (Two arrays, as a place that
-// is used twice keeps the memory small: see reduce_accepted.)
-#[derive(Clone, Copy)]
-struct Stretches<'a> {
-    firsts: &'a [u16],
-    lasts: &'a [u16],
-}
 
 // Going outward from a region: the smallest z of its stretch, and the smallest z of the other stretches. Where there is
 // no other, 65,535 stands for it: a kept z is less than its room, a 16-bit number, and so less than 65,535.
@@ -46,29 +39,35 @@ struct Ranges<'a> {
 fn nth(numbers: &[u16], k: u16) -> u16
     ensures { result ≡ get_or numbers.now k 0 }
 {
-    match numbers.get(k as usize) {
-        Some(number) => *number,
-        None => 0,
+    numbers.get(k as usize).copied().unwrap_or(0)
+}
+
+// The stretch of a region; none past the end.
+fn stretch_at(stretches: &[Stretch], k: u16) -> Stretch
+    ensures first { result.first ≡ get_or (firsts_of stretches.now) k 0 }
+    ensures last { result.last ≡ get_or (lasts_of stretches.now) k 0 }
+{
+    match stretches.get(k as usize) {
+        Some(stretch) => *stretch,
+        None => Stretch { first: 0, last: 0 },
     }
 }
 
-impl Stretches<'_> {
-    // Whether two regions have the same stretch.
-    #[tactic(auto, unfolding(crate::specs::Private::Keeping::same_ends))]
-    fn same(self, i: u16, k: u16) -> bool
-        ensures { result ≡ same_ends self.entry.firsts.now self.entry.lasts.now i k }
-    {
-        nth(self.firsts, i) == nth(self.firsts, k) && nth(self.lasts, i) == nth(self.lasts, k)
-    }
+// Whether two regions have the same stretch.
+#[tactic(auto, unfolding(crate::specs::Private::Keeping::same_ends))]
+fn same_stretch(stretches: &[Stretch], i: u16, k: u16) -> bool
+    ensures { result ≡ same_ends (firsts_of stretches.now) (lasts_of stretches.now) i k }
+{
+    stretch_at(stretches, i) == stretch_at(stretches, k)
+}
 
-    // Whether there is a next region and it has the stretch of the k-th one.
-    fn repeated(self, next: Option<u16>, k: u16) -> bool
-        ensures { result ≡ not (eqb (counted next) 0) && same_ends self.entry.firsts.now self.entry.lasts.now (counted next - 1) k }
-    {
-        match next {
-            Some(i) => self.same(i, k),
-            None => false,
-        }
+// Whether there is a next region and it has the stretch of the k-th one.
+fn repeated(stretches: &[Stretch], next: Option<u16>, k: u16) -> bool
+    ensures { result ≡ not (eqb (counted next) 0) && same_ends (firsts_of stretches.now) (lasts_of stretches.now) (counted next - 1) k }
+{
+    match next {
+        Some(i) => same_stretch(stretches, i, k),
+        None => false,
     }
 }
 
@@ -110,11 +109,11 @@ impl Ranges<'_> {
 fn weigh_region(
     file: &[u8],
     parents: &[u16],
-    stretches: Stretches,
+    stretches: &[Stretch],
     weights: WeightsOf,
     k: u16,
 ) -> Weights
-    requires with_stretches { WithStretches (family_of file.now) stretches.firsts.now stretches.lasts.now }
+    requires with_stretches { WithStretches (family_of file.now) (firsts_of stretches.now) (lasts_of stretches.now) }
     requires parents_below { ParentsBelow (family_of file.now) parents.now (region_count (family_of file.now)) }
     requires weighed_below { WeighedBelow (family_of file.now) weights.least.now weights.around.now k }
     requires k_bound { k < region_count (family_of file.now) }
@@ -130,7 +129,7 @@ fn weigh_region(
     }
     let parent = number - 1;
     let outer = weights.at(parent);
-    if stretches.same(parent, k) {
+    if same_stretch(stretches, parent, k) {
         Weights {
             least: z.min(outer.least),
             around: outer.around,
@@ -147,11 +146,11 @@ fn weigh_region(
 fn weigh(
     file: &[u8],
     parents: &[u16],
-    stretches: Stretches,
+    stretches: &[Stretch],
     least: &mut [u16; 8191],
     around: &mut [u16; 8191],
 )
-    requires with_stretches { WithStretches (family_of file.now) stretches.firsts.now stretches.lasts.now }
+    requires with_stretches { WithStretches (family_of file.now) (firsts_of stretches.now) (lasts_of stretches.now) }
     requires parents_below { ParentsBelow (family_of file.now) parents.now (region_count (family_of file.now)) }
     ensures { WeighedBelow (family_of file.now) least.new around.new (region_count (family_of file.now)) }
 {
@@ -168,14 +167,14 @@ fn weigh(
 #[tactic(auto, unfolding(crate::specs::Private::Keeping::kept_bound))]
 fn kept_bound(
     totals: &[u16],
-    stretches: Stretches,
+    stretches: &[Stretch],
     weights: WeightsOf,
     next: Option<u16>,
     k: u16,
 ) -> u16
-    ensures { result ≡ kept_bound stretches.entry.firsts.now stretches.entry.lasts.now totals.now weights.entry.least.now weights.entry.around.now (counted next) k }
+    ensures { result ≡ kept_bound (firsts_of stretches.now) (lasts_of stretches.now) totals.now weights.entry.least.now weights.entry.around.now (counted next) k }
 {
-    if nth(stretches.firsts, k) == 0 || stretches.repeated(next, k) {
+    if stretch_at(stretches, k).first == 0 || repeated(stretches, next, k) {
         return 0;
     }
     let z = nth(weights.least, k);
@@ -191,21 +190,20 @@ fn kept_bound(
 fn mark_kept(
     file: &[u8],
     totals: &[u16],
-    stretches: Stretches,
+    stretches: &[Stretch],
     weights: WeightsOf,
-    kept: &mut [u16],
+    kept: &mut [u16; 8191],
 )
-    requires with_stretches { WithStretches (family_of file.now) stretches.firsts.now stretches.lasts.now }
+    requires with_stretches { WithStretches (family_of file.now) (firsts_of stretches.now) (lasts_of stretches.now) }
     requires totals_below { TotalsBelow (family_of file.now) totals.now }
     requires weighed_below { WeighedBelow (family_of file.now) weights.least.now weights.around.now (region_count (family_of file.now)) }
-    requires kept_room { region_count (family_of file.now) ≤ length kept.old }
     ensures { KeptMarked (family_of file.now) kept.new 0 }
 {
     let mut next = None;
     let regions = region_count(file);
     for k in (0..regions).rev() {
         kept[k as usize] = kept_bound(totals, stretches, weights, next, k);
-        if nth(stretches.firsts, k) != 0 {
+        if stretch_at(stretches, k).first != 0 {
             next = Some(k);
         }
     }
@@ -264,8 +262,8 @@ fn append_runs(file: &[u8], live: &[u8], begin: u16, end: u16, ranges: &mut Rang
 
 // Lists the kept stretches in file order, each after the runs that begin before it. A stretch begins live and a run dead,
 // so the runs up to the first peptide of a stretch all come before it.
-fn gather(file: &[u8], live: &[u8], stretches: Stretches, kept: &[u16], ranges: &mut Ranges)
-    requires with_stretches { WithStretches (family_of file.now) stretches.firsts.now stretches.lasts.now }
+fn gather(file: &[u8], live: &[u8], stretches: &[Stretch], kept: &[u16], ranges: &mut Ranges)
+    requires with_stretches { WithStretches (family_of file.now) (firsts_of stretches.now) (lasts_of stretches.now) }
     requires kept_marked { KeptMarked (family_of file.now) kept.now 0 }
     requires runs_ahead { RunsAhead (family_of file.now) live.now 1 ((family_of file.now).peptides + 1) }
     requires whole { Whole ranges.old }
@@ -277,10 +275,10 @@ fn gather(file: &[u8], live: &[u8], stretches: Stretches, kept: &[u16], ranges: 
     for k in 0..region_count(file) {
         let z = nth(kept, k);
         if z != 0 {
-            let first = nth(stretches.firsts, k);
-            let after = first + 1;
+            let stretch = stretch_at(stretches, k);
+            let after = stretch.first + 1;
             append_runs(file, live, begin, after, ranges);
-            ranges.push(first, nth(stretches.lasts, k), z);
+            ranges.push(stretch.first, stretch.last, z);
             begin = after;
         }
     }
@@ -292,20 +290,18 @@ fn gather(file: &[u8], live: &[u8], stretches: Stretches, kept: &[u16], ranges: 
 // `to` hold the weights until the kept bounds are marked, and these are marked over the parents, which only the weights need.
 pub(crate) fn list_reduced(
     file: &[u8],
-    parents: &mut [u16],
+    parents: &mut [u16; 8191],
     live: &[u8],
-    firsts: &[u16],
-    lasts: &[u16],
+    stretches: &[Stretch],
     from: &mut [u16; 8191],
     to: &mut [u16; 8191],
     bounds: &mut [u16; 8191],
 ) -> u16
     requires parented { Parented file.now parents.old }
     requires totalled { Totalled file.now bounds.old }
-    requires stretched { Stretched file.now live.now firsts.now lasts.now }
+    requires stretched { Stretched file.now live.now (firsts_of stretches.now) (lasts_of stretches.now) }
     ensures { Listed file.now result from.new to.new bounds.new }
 {
-    let stretches = Stretches { firsts, lasts };
     weigh(file, parents, stretches, from, to);
     let weights = WeightsOf {
         least: from,

@@ -17,9 +17,8 @@ ghost use Rattle.reduction.specs.Private.FileChecks.{FileJudged};
 
 use keep::list_reduced;
 use reader::Checked;
-use reader::bytes::same_bytes;
 use reader::family::peptide_count;
-use stretch::find_stretches;
+use stretch::{Stretch, find_stretches};
 use write::write_reduced;
 
 // The reduced file's length and number of regions, or the number of the first cause that holds.
@@ -45,8 +44,7 @@ pub(crate) struct Size {
 }
 
 // The first of the causes 1 to 10 that holds, or 0 with the parents of the regions written.
-fn file_cause(file: &[u8], parents: &mut [u16]) -> u16
-    requires { 8191 ≤ length parents.old }
+fn file_cause(file: &[u8], parents: &mut [u16; 8191]) -> u16
     ensures { FileJudged file.now parents.new result }
 {
     match reader::parents(file, parents) {
@@ -60,42 +58,32 @@ fn file_cause(file: &[u8], parents: &mut [u16]) -> u16
 }
 
 // The inside total of each region with the live peptides selected.
-fn live_totals(file: &[u8], live: &[u8], totals: &mut [u16])
+fn live_totals(file: &[u8], live: &[u8; 4096], totals: &mut [u16; 8191])
     requires accepted { Accepted file.now }
     requires begins { Begins (live_bytes (family_of file.now)) live.now }
-    requires in_bounds { 8191 ≤ length totals.old }
     ensures { Totalled file.now totals.new }
 {
     let m = peptide_count(file) as usize;
-    bounds::inside_totals(file, &live[0..m], totals);
+    bounds::inside_totals(file, &live[..m], totals);
 }
 
 // Reduces an accepted file. What is not needed at one time shares a place, which keeps the stack small: `from` and `to`
 // hold the ends of the regions until the stretches are found, then the weights, then the reduced ranges; `zs` holds the
 // totals, then the bounds of these ranges; and the place of the parents holds the kept bounds once these are known.
-fn reduce_accepted(file: &[u8], parents: &mut [u16], out: &mut [u8]) -> Size
+fn reduce_accepted(file: &[u8], parents: &mut [u16; 8191], out: &mut [u8]) -> Size
     requires parented { Parented file.now parents.old }
     requires file_in_bounds { length file.now ≤ length out.old }
     ensures { Wrote file.now out.old out.new result.bytes result.regions }
 {
     let mut live = [0u8; 4096];
-    let mut firsts = [0u16; 8191];
-    let mut lasts = [0u16; 8191];
+    let mut stretches = [Stretch { first: 0, last: 0 }; 8191];
     let mut from = [0u16; 8191];
     let mut to = [0u16; 8191];
-    find_stretches(
-        file,
-        parents,
-        &mut from,
-        &mut to,
-        &mut live,
-        &mut firsts,
-        &mut lasts,
-    );
+    find_stretches(file, parents, &mut from, &mut to, &mut live, &mut stretches);
     let mut zs = [0u16; 8191];
     live_totals(file, &live, &mut zs);
     let n = list_reduced(
-        file, parents, &live, &firsts, &lasts, &mut from, &mut to, &mut zs,
+        file, parents, &live, &stretches, &mut from, &mut to, &mut zs,
     );
     write_reduced(file, n, &from, &to, &zs, out)
 }
@@ -123,9 +111,9 @@ pub fn reduce(file: &[u8], out: &mut [u8]) -> ReducedFile
 // Whether the reductions of two accepted files are equal.
 fn same_reduced(
     first: &[u8],
-    first_parents: &mut [u16],
+    first_parents: &mut [u16; 8191],
     second: &[u8],
-    second_parents: &mut [u16],
+    second_parents: &mut [u16; 8191],
 ) -> bool
     requires parented { Parented first.now first_parents.old }
     requires parented_2 { Parented second.now second_parents.old }
@@ -135,9 +123,7 @@ fn same_reduced(
     let first_size = reduce_accepted(first, first_parents, &mut one);
     let mut other = [0u8; 57354];
     let second_size = reduce_accepted(second, second_parents, &mut other);
-    let end = first_size.bytes as usize;
-    let other_end = second_size.bytes as usize;
-    same_bytes(&one[0..end], &other[0..other_end])
+    one[..first_size.bytes as usize] == other[..second_size.bytes as usize]
 }
 
 // Whether two families have the same reduced file, which they have exactly when they have the same curves.

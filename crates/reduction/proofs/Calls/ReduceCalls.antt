@@ -1,12 +1,12 @@
 -- What the calls of `reduction` answer and write, from what they find.
-use Prim.Native.Nat.{ℕ, ◌+◌, ◌-◌, ◌≤◌, ◌<◌}
+use Prim.Native.Nat.{ℕ, ◌+◌, ◌≤◌, ◌<◌}
 use mathlib.Core.Bool.{Bool, true, false, cond}
 use mathlib.Core.List.{List, [], ◌∷◌, map}
 use mathlib.Core.Path.{◌≡◌, refl, sym, ap, ◌∙◌}
 use mathlib.Core.Logic.{⊎_elim}
 use native.Mathlib.Omega.{arith}
 use lib.ListN.{length, take, drop, length-append}
-use lib.Seq.{take_at}
+use lib.Seq.{take_at, length-take-le}
 use lib.Dec.{ltb}
 use borrow.Author.Tests.{lt-ltb, le-ltb}
 use Rattle.reader.specs.Lists.{same_list}
@@ -73,12 +73,15 @@ module _ (s : List ℕ) (a : Accepted s) where
 
 -- The reduced file in the output.
 module _ {s old new : List ℕ} {l k : ℕ} (w : Wrote s old new l k) where
-  pub wrote_room : l ≤ length new
-  wrote_room = omega (arith, w.whole, ap length w.start, length-append (reduced_file s) (drop (length (reduced_file s)) old))
+  pub wrote_fills : l ≡ length (take l new)
+  wrote_fills = sym (length-take-le l new room)
+    where
+      room : l ≤ length new
+      room = omega (arith, w.whole, ap length w.start, length-append (reduced_file s) (drop (length (reduced_file s)) old))
 
   -- the part from 0 up to its end is the reduced file
-  pub wrote_part : take (l - 0) new ≡ reduced_file s
-  wrote_part = ap (take (l - 0)) w.start ∙ take_at (reduced_file s) (drop (length (reduced_file s)) old) (l - 0) (omega (arith, w.whole))
+  pub wrote_part : take l new ≡ reduced_file s
+  wrote_part = ap (take l) w.start ∙ take_at (reduced_file s) (drop (length (reduced_file s)) old) l (omega (arith, w.whole))
 
 -- The reduction.
 module _ (s out : List ℕ) where

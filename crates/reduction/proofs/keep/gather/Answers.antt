@@ -3,19 +3,19 @@ use Rattle.reader.specs.Family.{family_of, region_count}
 use Rattle.reduction.specs.Private.Keeping.{first_at, of_first, Passed}
 use Rattle.reduction.proofs.Keeping.Gathering.{same_trans, gathers_start, passed_start, passed_skip, skip_region, passed_place, place_room, place_more, listed_all}
 use Rattle.reduction.proofs.keep.gather.Goals as goal
-use Rattle.reduction.proofs.keep.gather.Goals.{After-append_runs, After-nth-first, then-z-ne0, else-z-ne0}
+use Rattle.reduction.proofs.keep.gather.Goals.{After-append_runs, After-stretch_at-stretch, then-z-ne0, else-z-ne0}
 
 -- the region is that of a kept stretch
-is-kept : (c : After-nth-first) → 1 ≤ get_or c.args.kept.now c.loop-k.k 0
+is-kept : (c : After-stretch_at-stretch) → 1 ≤ get_or c.args.kept.now c.loop-k.k 0
 is-kept c = let z = c.if-z-ne0.true in omega (arith, c.nth-z.ensures)
 
-first_is : (c : After-nth-first) → c.nth-first.result ≡ first_at (family_of c.args.file.now) c.loop-k.k
-first_is c = c.nth-first.ensures ∙ c.requires.with_stretches.firsts c.loop-k.k (omega arith)
+first_is : (c : After-stretch_at-stretch) → c.stretch_at-stretch.result.first ≡ first_at (family_of c.args.file.now) c.loop-k.k
+first_is c = c.stretch_at-stretch.ensures.first ∙ c.requires.with_stretches.firsts c.loop-k.k (omega arith)
 
-passed-it : (c : After-nth-first) → Passed (family_of c.args.file.now) c.args.kept.now (c.loop-k.k + 1) (c.nth-first.result + 1)
+passed-it : (c : After-stretch_at-stretch) → Passed (family_of c.args.file.now) c.args.kept.now (c.loop-k.k + 1) (c.stretch_at-stretch.result.first + 1)
 passed-it c =
     let pre = c.requires in
-    passed_place pre.with_stretches.well_formed c.args.kept.now pre.kept_marked c.loop-k.k c.nth-first.result (omega arith) (is-kept c) (first_is c)
+    passed_place pre.with_stretches.well_formed c.args.kept.now pre.kept_marked c.loop-k.k c.stretch_at-stretch.result.first (omega arith) (is-kept c) (first_is c)
 
 -- the stretch is the next range of the list
 room : (c : After-append_runs) → c.append_runs.new.ranges.count < region_count (family_of c.args.file.now)
@@ -25,7 +25,7 @@ room c =
     let C = c.args.kept.now in
     let k = c.loop-k.k in
     place_room pre.with_stretches.well_formed C pre.kept_marked k c.append_runs.new.ranges.count _ _ _ (omega arith) (let z = c.if-z-ne0.true in omega (arith, c.nth-z.ensures))
-    c.nth-first.result _ _ (c.nth-first.ensures ∙ pre.with_stretches.firsts k (omega arith)) refl refl
+    c.stretch_at-stretch.result.first _ _ (c.stretch_at-stretch.ensures.first ∙ pre.with_stretches.firsts k (omega arith)) refl refl
     (c.append_runs.ensures.gathered (of_first F C k) c.loop-k.invariant.gathered)
 
 pub loop-k-init : goal.loop-k-init
@@ -39,13 +39,13 @@ loop-k-init c =
     }
 
 pub overflow_add-after : goal.overflow_add-after
-overflow_add-after c = omega (arith, (passed-it (goal.at.overflow_add-after c).After-nth-first).small, c.requires.with_stretches.well_formed.peptides_most)
+overflow_add-after c = omega (arith, (passed-it (goal.at.overflow_add-after c).After-stretch_at-stretch).small, c.requires.with_stretches.well_formed.peptides_most)
 
 pub append_runs-requires-clause-runs_ahead : goal.append_runs-requires-clause-runs_ahead
 append_runs-requires-clause-runs_ahead c =
     let ahead = c.requires.runs_ahead in
     let inv = c.loop-k.invariant in
-    let it = (goal.at.append_runs-requires-clause-runs_ahead c).After-nth-first in record {
+    let it = (goal.at.append_runs-requires-clause-runs_ahead c).After-stretch_at-stretch in record {
       lives = ahead.lives;
       positive = inv.passed.positive;
       order = omega (arith, inv.passed.after c.loop-k.k (omega arith) (omega arith) (is-kept it), first_is it);
@@ -70,15 +70,15 @@ loop-k-preserved c =
           let a = w.append_runs.ensures in
           let e = w.push.ensures in
           let some : 1 ≤ get_or C k 0 = let z = w.if-z-ne0.true in omega (arith, c.nth-z.ensures) in
-          let first : w.nth-first.result ≡ first_at F k = w.nth-first.ensures ∙ pre.with_stretches.firsts k (omega arith) in
+          let first : w.stretch_at-stretch.result.first ≡ first_at F k = w.stretch_at-stretch.ensures.first ∙ pre.with_stretches.firsts k (omega arith) in
           record {
             whole = rw w.ranges-is e.whole;
             same_arrays = rw w.ranges-is (same_trans inv.same_arrays (same_trans a.same_arrays e.same_arrays));
-            passed = rw w.begin-is (passed_place well C pre.kept_marked k w.nth-first.result (omega arith) some first);
+            passed = rw w.begin-is (passed_place well C pre.kept_marked k w.stretch_at-stretch.result.first (omega arith) some first);
             gathered =
                 rw (w.begin-is, w.ranges-is, e.count, e.from, e.to, e.bounds)
                 (place_more well C pre.kept_marked k w.append_runs.new.ranges.count w.append_runs.new.ranges.from.now w.append_runs.new.ranges.to.now w.append_runs.new.ranges.bounds.now (omega arith) some
-                w.nth-first.result w.nth.result c.nth-z.result first (w.nth.ensures ∙ pre.with_stretches.lasts k (omega arith)) c.nth-z.ensures (a.gathered (of_first F C k) inv.gathered)
+                w.stretch_at-stretch.result.first w.stretch_at-stretch.result.last c.nth-z.result first (w.stretch_at-stretch.ensures.last ∙ pre.with_stretches.lasts k (omega arith)) c.nth-z.ensures (a.gathered (of_first F C k) inv.gathered)
                 (omega (arith, ahead.few, a.whole.from)) (omega (arith, ahead.few, a.whole.to)) (omega (arith, ahead.few, a.whole.bounds)));
           }
       | else-z-ne0 w ↦

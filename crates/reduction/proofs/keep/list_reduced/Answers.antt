@@ -1,6 +1,7 @@
 -- The three steps, from the lists that are handed in.
 use Rattle.std.proofs.Common.{arith}
 use Rattle.reader.specs.Bytes.{IsBytes}
+use Rattle.reduction.specs.Private.Steps.{firsts_of, lasts_of}
 use Rattle.reduction.proofs.Keeping.HandedOn.{known, totals_at, with_parents}
 use Rattle.reduction.proofs.Keeping.Gathering.{regions_few}
 use Rattle.reduction.proofs.keep.list_reduced.Goals as goal
@@ -10,7 +11,7 @@ weigh-requires c =
     let s = c.args.file.now in
     let bytes : IsBytes s = λ i. omega (arith, c.type_inv.file i) in
     record {
-      with_stretches = known s bytes c.requires.parented.accepted c.args.live.now c.args.firsts.now c.args.lasts.now c.requires.stretched;
+      with_stretches = known s bytes c.requires.parented.accepted c.args.live.now (firsts_of c.args.stretches.now) (lasts_of c.args.stretches.now) c.requires.stretched;
       parents_below = (with_parents s c.args.parents.now bytes c.requires.parented).known;
     }
 
@@ -19,17 +20,16 @@ mark_kept-requires c =
     let s = c.args.file.now in
     let bytes : IsBytes s = λ i. omega (arith, c.type_inv.file i) in
     record {
-      with_stretches = known s bytes c.requires.parented.accepted c.args.live.now c.args.firsts.now c.args.lasts.now c.requires.stretched;
+      with_stretches = known s bytes c.requires.parented.accepted c.args.live.now (firsts_of c.args.stretches.now) (lasts_of c.args.stretches.now) c.requires.stretched;
       totals_below = totals_at s c.args.bounds.now c.requires.totalled;
       weighed_below = c.weigh.ensures;
-      kept_room = (with_parents s c.args.parents.now bytes c.requires.parented).room;
     }
 
 pub gather-requires : goal.gather-requires
 gather-requires c =
     let s = c.args.file.now in
     let bytes : IsBytes s = λ i. omega (arith, c.type_inv.file i) in
-    let stretches = known s bytes c.requires.parented.accepted c.args.live.now c.args.firsts.now c.args.lasts.now c.requires.stretched in
+    let stretches = known s bytes c.requires.parented.accepted c.args.live.now (firsts_of c.args.stretches.now) (lasts_of c.args.stretches.now) c.requires.stretched in
     record {
       with_stretches = stretches;
       kept_marked = c.mark_kept.ensures;

@@ -2,6 +2,7 @@ use Rattle.std.proofs.Common.{◌≡◌, ◌-◌, ◌≤◌, sym, ◌∙◌, sub
 use Rattle.reader.specs.Family.{family_of}
 use Rattle.reduction.specs.Private.Keeping.{KeptMarked, counted}
 use Rattle.reduction.proofs.Keeping.Bounding.{next_stretch, next_same, bound_marked_more}
+use Rattle.reduction.proofs.Keeping.Gathering.{regions_few}
 use Rattle.reduction.proofs.keep.mark_kept.Goals as goal
 use Rattle.reduction.proofs.keep.mark_kept.Goals.{After-kept_bound}
 
@@ -12,18 +13,21 @@ marks c fits =
     let pre = c.requires in
     let inv = c.loop-k.invariant in
     bound_marked_more pre.with_stretches (counted c.loop-k.next) c.loop-k.k (omega (arith, c.loop-k-test.true)) (omega arith) inv.next _ _ _ c.loop-k.kept _ pre.totals_below pre.weighed_below
-    fits (omega (arith, inv.room, pre.kept_room)) inv.marked c.kept_bound.ensures
+    fits (omega (arith, inv.room, regions_few pre.with_stretches.well_formed)) inv.marked c.kept_bound.ensures
 
-pub loop-k-preserved-then-nth-ne0 : goal.loop-k-preserved-then-nth-ne0
-loop-k-preserved-then-nth-ne0 c = record {
+pub bounds-kept-k : goal.bounds-kept-k
+bounds-kept-k c = omega (arith, regions_few c.requires.with_stretches.well_formed)
+
+pub loop-k-preserved-then-stretch_at-ne0 : goal.loop-k-preserved-then-stretch_at-ne0
+loop-k-preserved-then-stretch_at-ne0 c = record {
   room = simp length-set c.loop-k.invariant.room;
-  next = next_stretch c.requires.with_stretches (counted c.loop-k.next) c.loop-k.k (omega (arith, c.loop-k-test.true)) (omega arith) c.loop-k.invariant.next (λ e. c.if-nth-ne0.true (c.nth.ensures ∙ e));
-  marked = marks (goal.at.loop-k-preserved-then-nth-ne0 c).After-kept_bound (omega (arith, c.type_inv.totals (c.loop-k.k - 1)));
+  next = next_stretch c.requires.with_stretches (counted c.loop-k.next) c.loop-k.k (omega (arith, c.loop-k-test.true)) (omega arith) c.loop-k.invariant.next (λ e. c.if-stretch_at-ne0.true (c.stretch_at.ensures.first ∙ e));
+  marked = marks (goal.at.loop-k-preserved-then-stretch_at-ne0 c).After-kept_bound (omega (arith, c.type_inv.totals (c.loop-k.k - 1)));
 }
 
 pub loop-k-preserved : goal.loop-k-preserved
 loop-k-preserved c = record {
   room = simp length-set c.loop-k.invariant.room;
-  next = next_same c.requires.with_stretches (counted c.loop-k.next) c.loop-k.k (omega (arith, c.loop-k-test.true)) (omega arith) c.loop-k.invariant.next (sym c.nth.ensures ∙ c.if-nth-ne0.false);
+  next = next_same c.requires.with_stretches (counted c.loop-k.next) c.loop-k.k (omega (arith, c.loop-k-test.true)) (omega arith) c.loop-k.invariant.next (sym c.stretch_at.ensures.first ∙ c.if-stretch_at-ne0.false);
   marked = marks (goal.at.loop-k-preserved c).After-kept_bound (omega (arith, c.type_inv.totals (c.loop-k.k - 1)));
 }

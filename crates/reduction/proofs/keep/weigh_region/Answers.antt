@@ -23,24 +23,24 @@ returns-then-number-eq0 c s =
     rw (held_z _ (region F k) c.region_of-z.ensures)
     (weighed_outermost pre.with_stretches.well_formed k pre.k_bound (subst (IsParent F k) c.if-number-eq0.true (is-parent (goal.at.returns-then-number-eq0 c).After-nth-number)))
 
-pub returns-then-same : goal.returns-then-same
-returns-then-same c s =
+pub returns-then-same_stretch : goal.returns-then-same_stretch
+returns-then-same_stretch c s =
     let F = family_of c.args.file.now in
     let k = c.args.k in
     let pre = c.requires in
     let w = c.args.weights in
     let least : c.min.result ≡ min (region F k).z (get_or w.least.now (c.nth-number.result - 1) 0) =
-        c.min.ensures ∙ ap₂ min (held_z _ (region F k) c.region_of-z.ensures) c.at-outer.ensures.least in
+    c.min.ensures ∙ ap₂ min (held_z _ (region F k) c.region_of-z.ensures) c.at-outer.ensures.least in
     rw (least, c.at-outer.ensures.around)
-    (weigh_same pre.with_stretches w.least.now w.around.now k c.nth-number.result pre.k_bound c.if-number-eq0.false (is-parent (goal.at.returns-then-same c).After-nth-number) pre.weighed_below s (sym c.same.ensures ∙ c.if-same.true))
+    (weigh_same pre.with_stretches w.least.now w.around.now k c.nth-number.result pre.k_bound c.if-number-eq0.false (is-parent (goal.at.returns-then-same_stretch c).After-nth-number) pre.weighed_below s (sym c.same_stretch.ensures ∙ c.if-same_stretch.true))
 
-pub returns-else-same : goal.returns-else-same
-returns-else-same c s =
+pub returns-else-same_stretch : goal.returns-else-same_stretch
+returns-else-same_stretch c s =
     let F = family_of c.args.file.now in
     let k = c.args.k in
     let pre = c.requires in
     let w = c.args.weights in
-    let around : c.min-else-same.result ≡ min (get_or w.least.now (c.nth-number.result - 1) 0) (get_or w.around.now (c.nth-number.result - 1) 0) =
-        c.min-else-same.ensures ∙ ap₂ min c.at-outer.ensures.least c.at-outer.ensures.around in
+    let around : c.min-else-same_stretch.result ≡ min (get_or w.least.now (c.nth-number.result - 1) 0) (get_or w.around.now (c.nth-number.result - 1) 0) =
+    c.min-else-same_stretch.ensures ∙ ap₂ min c.at-outer.ensures.least c.at-outer.ensures.around in
     rw (held_z _ (region F k) c.region_of-z.ensures, around)
-    (weigh_other pre.with_stretches w.least.now w.around.now k c.nth-number.result pre.k_bound c.if-number-eq0.false (is-parent (goal.at.returns-else-same c).After-nth-number) pre.weighed_below s (sym c.same.ensures ∙ c.if-same.false))
+    (weigh_other pre.with_stretches w.least.now w.around.now k c.nth-number.result pre.k_bound c.if-number-eq0.false (is-parent (goal.at.returns-else-same_stretch c).After-nth-number) pre.weighed_below s (sym c.same_stretch.ensures ∙ c.if-same_stretch.false))
