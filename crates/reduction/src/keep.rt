@@ -39,10 +39,7 @@ struct Ranges<'a> {
 fn nth(numbers: &[u16], k: u16) -> u16
     ensures { result ≡ get_or numbers.now k 0 }
 {
-    match numbers.get(k as usize) {
-        Some(number) => *number,
-        None => 0,
-    }
+    numbers.get(k as usize).copied().unwrap_or(0)
 }
 
 // The stretch of a region; none past the end.
@@ -195,12 +192,11 @@ fn mark_kept(
     totals: &[u16],
     stretches: &[Stretch],
     weights: WeightsOf,
-    kept: &mut [u16],
+    kept: &mut [u16; 8191],
 )
     requires with_stretches { WithStretches (family_of file.now) (firsts_of stretches.now) (lasts_of stretches.now) }
     requires totals_below { TotalsBelow (family_of file.now) totals.now }
     requires weighed_below { WeighedBelow (family_of file.now) weights.least.now weights.around.now (region_count (family_of file.now)) }
-    requires kept_room { region_count (family_of file.now) ≤ length kept.old }
     ensures { KeptMarked (family_of file.now) kept.new 0 }
 {
     let mut next = None;
@@ -294,7 +290,7 @@ fn gather(file: &[u8], live: &[u8], stretches: &[Stretch], kept: &[u16], ranges:
 // `to` hold the weights until the kept bounds are marked, and these are marked over the parents, which only the weights need.
 pub(crate) fn list_reduced(
     file: &[u8],
-    parents: &mut [u16],
+    parents: &mut [u16; 8191],
     live: &[u8],
     stretches: &[Stretch],
     from: &mut [u16; 8191],
