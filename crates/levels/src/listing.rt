@@ -1,35 +1,13 @@
-// What a PHFL file says in its header, and the regions that it lists.
+// What a PHFL file lists.
 ghost use Rattle.std.specs.Prelude.{◌≡◌, ◌-◌, ◌<◌, length};
 ghost use Rattle.reader.specs.Bytes.{IsBytes};
 ghost use Rattle.reader.specs.Family.{leaves, region_count, region};
-ghost use Rattle.reader.specs.Causes.{cause1, first_cause};
 ghost use Rattle.reader.specs.Calls.{held};
-ghost use Rattle.levels.specs.Levels.{level_mark, listed_family};
-ghost use Rattle.levels.specs.Causes.{level_header_causes};
+ghost use Rattle.levels.specs.Levels.{listed_family};
 ghost use Rattle.levels.specs.Private.Listing.{Headed, Sound};
 
-use reader::bytes::{number_at, same_bytes};
-use reader::causes::layout_cause;
+use reader::bytes::number_at;
 use reader::family::{Leaf, Region, leaf_count, region_count};
-
-fn lacks_mark(file: &[u8]) -> bool
-    ensures { result ≡ cause1 level_mark file.now }
-{
-    if file.len() < 16 {
-        return true;
-    }
-    !same_bytes(&file[0..4], b"PHFL")
-}
-
-// The first of the causes 1 to 5 that holds, or 0.
-pub(crate) fn header_cause(file: &[u8]) -> u8
-    ensures { result ≡ first_cause (level_header_causes file.now) }
-{
-    if lacks_mark(file) {
-        return 1;
-    }
-    layout_cause(file, 144)
-}
 
 // A PHFL file with none of the causes 1 to 7: it has what it lists, and the regions lie on the leaves.
 #[derive(Clone, Copy)]

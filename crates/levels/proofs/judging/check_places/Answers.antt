@@ -9,8 +9,8 @@ use Rattle.levels.specs.Causes.{repeated, cause26}
 use Rattle.levels.proofs.Theory.RoundTrips.{counts_add}
 use Rattle.levels.proofs.Files.Listed.{header_few}
 use Rattle.levels.proofs.Calls.Judging.{numbers_of, few_of, left_out, none_left_out, levels_placed, place_16, place_26, place_27, place_0, wrong_27, right_27}
-use Rattle.levels.proofs.judging.place_cause.Goals as goal
-use Rattle.levels.proofs.judging.place_cause.Goals.{After-region_count, Else-bad_counts, Else-order-region_count}
+use Rattle.levels.proofs.judging.check_places.Goals as goal
+use Rattle.levels.proofs.judging.check_places.Goals.{After-region_count, Else-bad_counts, Else-order-region_count}
 
 count : (c : After-region_count) → c.region_count.result ≡ region_count (listed_family c.args.list.now.file.now)
 count c = c.region_count.ensures
@@ -56,6 +56,6 @@ pub returns-then-wrong_levels : goal.returns-then-wrong_levels
 returns-then-wrong_levels c =
     sym (place_27 _ _ (omega (arith, c.if-room-family_length.false, c.family_length.ensures)) (no26 (goal.at.returns-then-wrong_levels c).Else-bad_counts) (wrong_27 _ _ (sym c.wrong_levels.ensures ∙ c.if-wrong_levels.true)))
 
-pub returns-else-wrong_levels : goal.returns-else-wrong_levels
-returns-else-wrong_levels c =
-    sym (place_0 _ _ (omega (arith, c.if-room-family_length.false, c.family_length.ensures)) (no26 (goal.at.returns-else-wrong_levels c).Else-bad_counts) (right_27 _ _ (none-repeats (goal.at.returns-else-wrong_levels c).Else-order-region_count) (sym c.wrong_levels.ensures ∙ c.if-wrong_levels.false)))
+pub returns : goal.returns
+returns c =
+    sym (place_0 _ _ (omega (arith, c.if-room-family_length.false, c.family_length.ensures)) (no26 (goal.at.returns c).Else-bad_counts) (right_27 _ _ (none-repeats (goal.at.returns c).Else-order-region_count) (sym c.wrong_levels.ensures ∙ c.if-wrong_levels.false)))

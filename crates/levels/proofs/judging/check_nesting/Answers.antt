@@ -5,6 +5,7 @@ use Prim.Native.Nat.{ℕ, ◌-◌, ◌*◌}
 use mathlib.Core.List.{List}
 use mathlib.Core.Path.{◌≡◌, ap, subst, ◌∙◌}
 use lib.ListN.{length, take}
+use Rattle.reader.specs.Refusals.{verdict}
 use Rattle.reader.specs.Family.{file_of, leaves, total_length}
 use Rattle.levels.specs.Levels.{listed_family}
 use Rattle.levels.specs.Private.Listing.{arranged}
@@ -12,8 +13,8 @@ use Rattle.levels.specs.Private.Leveling.{Leveled}
 use Rattle.levels.specs.Private.Judging.{Plain}
 use Rattle.levels.proofs.Files.Listed.{header_facts, header_few}
 use Rattle.levels.proofs.Calls.Judging.{front_of, arranged_length, numbers_of, few_of, nesting_of}
-use Rattle.levels.proofs.judging.nesting_cause.Goals as goal
-use Rattle.levels.proofs.judging.nesting_cause.Goals.{After-family_length, After-write_listed}
+use Rattle.levels.proofs.judging.check_nesting.Goals as goal
+use Rattle.levels.proofs.judging.check_nesting.Goals.{After-family_length, After-write_listed}
 
 abbrev end : After-family_length → ℕ
 end c = c.family_length.result - 6 * (c.region_count.result - length c.args.order.now)
@@ -53,6 +54,6 @@ returns c =
     let O = c.args.order.now in
     let is : take (end (goal.at.returns c).After-family_length - 0) c.write_listed.new.out ≡ file_of (arranged (listed_family s) O) =
     ap (λ (n : ℕ). take n c.write_listed.new.out) (sub-zero (end (goal.at.returns c).After-family_length) ∙ long (goal.at.returns c).After-family_length) ∙ plain (goal.at.returns c).After-write_listed in record {
-      nested = nesting_of s O d c.args.list.now.bytes _ _ (subst (λ (l : List ℕ). Leveled l c.find_levels.new.levels c.find_levels.result) is c.find_levels.ensures);
+      nested = nesting_of s O d c.args.list.now.bytes _ _ (subst (λ (l : List ℕ). Leveled l c.find_levels.new.levels (verdict c.find_levels.result)) is c.find_levels.ensures);
       plain = plain (goal.at.returns c).After-write_listed;
     }

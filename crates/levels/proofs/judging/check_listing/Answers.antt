@@ -11,8 +11,8 @@ use Rattle.reader.specs.Causes.{first_cause, header_causes, listing_causes}
 use Rattle.levels.specs.Levels.{listed_family}
 use Rattle.levels.proofs.Files.Listed.{header_facts, header_few}
 use Rattle.levels.proofs.Calls.Judging.{front_of, listed_length, listing_of}
-use Rattle.levels.proofs.judging.listing_cause.Goals as goal
-use Rattle.levels.proofs.judging.listing_cause.Goals.{After-write_as_listed}
+use Rattle.levels.proofs.judging.check_listing.Goals as goal
+use Rattle.levels.proofs.judging.check_listing.Goals.{After-write_as_listed}
 
 -- what the reader judges
 plain : (c : After-write_as_listed) → take (length c.args.file.now - 128 - 0) c.write_as_listed.new.out ≡ file_of (listed_family c.args.file.now)
@@ -31,14 +31,14 @@ pub overflow_sub-file : goal.overflow_sub-file
 overflow_sub-file c =
     omega (arith, (header_facts _ c.requires.headed).whole)
 
-pub slice_bounds-listing_cause-end : goal.slice_bounds-listing_cause-end
-slice_bounds-listing_cause-end c =
+pub slice_bounds-check_listing-end : goal.slice_bounds-check_listing-end
+slice_bounds-check_listing-end c =
     let h = header_facts _ c.requires.headed in omega (arith, h.whole, h.leaves_most, header_few _ c.requires.headed, c.write_as_listed.auto.out)
 
 pub returns : goal.returns
 returns c =
     let s = c.args.file.now in
     let bytes : IsBytes s = λ i. omega (arith, c.type_inv.file i) in
-    c.listing_cause-cause.ensures
+    c.check_listing.ensures
     ∙ ap (λ (l : List ℕ). first_cause (header_causes l ++ listing_causes (family_of l))) (plain (goal.at.returns c).After-write_as_listed)
     ∙ listing_of s bytes c.requires.headed
