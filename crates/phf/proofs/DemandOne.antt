@@ -140,19 +140,19 @@ pub record DemandOne : Type 0 where
       r (λ n. record { number = n; length = 0 }) (record { number = 0; length = length (family_file_of file) })
       (new ∷ []) (out ∷ []) (at_start (family_file_of file) out ∷ [])
   -- The calls of the libraries, in the same order.
-  pub check : (file : List ℕ) (r : Checked) → CheckAnswers file r
-      → Obeys (file_causes file) r told.Refused (told.Family (family_of file).peptides (leaves (family_of file)) (region_count (family_of file))) [] [] []
-  pub parents : (file out new : List ℕ) (r : Checked) → ParentsAnswers file out r → ParentsWrites file out new
+  pub check : (file : List ℕ) (r : Result Sizes Refusal) → CheckAnswers file r
+      → Obeys (file_causes file) r (λ n. Err (refusal_of 0 n)) (Ok (record { peptides = (family_of file).peptides; leaves = leaves (family_of file); regions = region_count (family_of file) })) [] [] []
+  pub parents : (file out new : List ℕ) (r : Result Sizes Refusal) → ParentsAnswers file out r → ParentsWrites file out new
       → Obeys (parents_causes file out)
-      r told.Refused (told.Family (family_of file).peptides (leaves (family_of file)) (region_count (family_of file)))
+      r (λ n. Err (refusal_of 0 n)) (Ok (record { peptides = (family_of file).peptides; leaves = leaves (family_of file); regions = region_count (family_of file) }))
       (new ∷ []) (out ∷ []) (at_start (nesting.parents (family_of file)) out ∷ [])
-  pub bound : (file selection taken new : List ℕ) (r : Bounded) → BoundAnswers file selection taken r → TakenWrites file selection taken new
+  pub bound : (file selection taken new : List ℕ) (r : Result ℕ Refusal) → BoundAnswers file selection taken r → TakenWrites file selection taken new
       → Obeys (selection_causes file selection taken)
-      r bounded.Refused (bounded.Bound (bound_of (family_of file) selection))
+      r (λ n. Err (refusal_of 0 n)) (Ok (bound_of (family_of file) selection))
       (new ∷ []) (taken ∷ []) (at_start (taken_of (family_of file) selection) taken ∷ [])
-  pub inside_totals : (file selection out new : List ℕ) (r : Bounded) → BoundAnswers file selection out r → TotalsWrites file selection out new
+  pub inside_totals : (file selection out new : List ℕ) (r : Result ℕ Refusal) → BoundAnswers file selection out r → TotalsWrites file selection out new
       → Obeys (selection_causes file selection out)
-      r bounded.Refused (bounded.Bound (bound_of (family_of file) selection))
+      r (λ n. Err (refusal_of 0 n)) (Ok (bound_of (family_of file) selection))
       (new ∷ []) (out ∷ []) (at_start (totals_of (family_of file) selection) out ∷ [])
   pub bound_list : (file selections : List ℕ) (count tally : ℕ) (values new : List ℕ) (r : Listed) → ListAnswers file selections count tally values r → ListWrites file selections count tally values new
       → Obeys (list_causes file selections count tally (length values))
@@ -160,35 +160,35 @@ pub record DemandOne : Type 0 where
       (new ∷ []) (values ∷ []) (at_start (list_bounds (family_of file) selections count) values ∷ [])
   pub choose : (m : ℕ) (ps folds : List Float) (rule : Rule) (out new : List ℕ) (r : ℕ) → ChooseAnswers m ps folds rule out r → ChooseWrites m ps folds rule out new
       → Obeys (choose_causes m ps folds rule (length out)) r (λ n. n) 0 (new ∷ []) (out ∷ []) (at_start (chosen rule ps folds) out ∷ [])
-  pub curve : (file path values marks newValues newMarks : List ℕ) (r : Curved) → CurveAnswers file path values marks r → CurveDeclines file path values marks r → CurveValuesWrites file path values marks newValues → CurveMarksWrites file path values marks newMarks
+  pub curve : (file path values marks newValues newMarks : List ℕ) (r : Result (Unit {0}) Refusal) → CurveAnswers file path values marks r → CurveDeclines file path values marks r → CurveValuesWrites file path values marks newValues → CurveMarksWrites file path values marks newMarks
       → Obeys (curve_causes file path values marks)
-      r (λ n. cond (eqb n 13) (curved.Repeated (first_repeat path)) (curved.Refused n)) curved.Written
+      r (λ n. Err (refusal_of (first_repeat path) n)) (Ok tt)
       (newValues ∷ newMarks ∷ []) (values ∷ marks ∷ []) (at_start (curve_values (family_of file) path) values ∷ at_start (curve_marks (family_of file) path) marks ∷ [])
-  pub cut : (file path : List ℕ) (a b : ℕ) (r : CutFound) → CutAnswers file path a b r
+  pub cut : (file path : List ℕ) (a b : ℕ) (r : Result ℕ Refusal) → CutAnswers file path a b r
       → Obeys (cut_causes file path a b)
-      r (λ n. cond (eqb n 13) (cutFound.Repeated (first_repeat path)) (cutFound.Refused n)) (cutFound.At (cut_of (family_of file) path a b))
+      r (λ n. Err (refusal_of (first_repeat path) n)) (Ok (cut_of (family_of file) path a b))
       [] [] []
-  pub reduce : (file out new : List ℕ) (r : ReducedFile) → ReduceAnswers file out r → ReduceWrites file out new
+  pub reduce : (file out new : List ℕ) (r : Result Size Refusal) → ReduceAnswers file out r → ReduceWrites file out new
       → Obeys (reduce_causes file out)
-      r made.Refused (made.Written (number_at (reduced_file file) 14) (number_at (reduced_file file) 8))
+      r (λ n. Err (refusal_of 0 n)) (Ok (record { length = number_at (reduced_file file) 14; regions = number_at (reduced_file file) 8 }))
       (new ∷ []) (out ∷ []) (at_start (reduced_file file) out ∷ [])
-  pub same : (first second : List ℕ) (r : Compared) → SameAnswers first second r
+  pub same : (first second : List ℕ) (r : Result Bool PairRefusal) → SameAnswers first second r
       → Obeys (compare_causes first second)
-      r compared.Refused (cond (same_list (reduced_file first) (reduced_file second)) compared.Same compared.Different)
+      r (λ n. Err (pair_refusal_of n)) (Ok (same_list (reduced_file first) (reduced_file second)))
       [] [] []
   pub bounds_from_p : (file ps : List ℕ) (deviationSquared : ℕ) (out new : List ℕ) (r : ℕ) → FromPAnswers file ps deviationSquared out r → FromPWrites file ps deviationSquared out new
       → Obeys (from_p_causes file ps deviationSquared (length out)) r (λ n. n) 0 (new ∷ []) (out ∷ []) (at_start (file_from_p file ps deviationSquared) out ∷ [])
-  pub hybrid : (file path ps : List ℕ) (level : ℕ) (values new : List ℕ) (r : Curved) → HybridAnswers file path ps level values r → HybridDeclines file path ps level values r → HybridWrites file path ps level values new
+  pub hybrid : (file path ps : List ℕ) (level : ℕ) (values new : List ℕ) (r : Result (Unit {0}) Refusal) → HybridAnswers file path ps level values r → HybridDeclines file path ps level values r → HybridWrites file path ps level values new
       → Obeys (hybrid_causes file path ps level (length values))
-      r (λ n. cond (eqb n 13) (curved.Repeated (first_repeat path)) (curved.Refused n)) curved.Written
+      r (λ n. Err (refusal_of (first_repeat path) n)) (Ok tt)
       (new ∷ []) (values ∷ []) (at_start (hybrid_values (family_of file) ps level path) values ∷ [])
-  pub to_levels : (file out new : List ℕ) (r : Converted) → ToLevelsAnswers file out r → ToLevelsWrites file out new
+  pub to_levels : (file out new : List ℕ) (r : Result ℕ Refusal) → ToLevelsAnswers file out r → ToLevelsWrites file out new
       → Obeys (to_levels_causes file (length out))
-      r converted.Refused (converted.Written (length (level_file_of (family_of file))))
+      r (λ n. Err (refusal_of 0 n)) (Ok (length (level_file_of (family_of file))))
       (new ∷ []) (out ∷ []) (at_start (level_file_of (family_of file)) out ∷ [])
-  pub from_levels : (file out new : List ℕ) (r : Converted) → FromLevelsAnswers file out r → FromLevelsWrites file out new
+  pub from_levels : (file out new : List ℕ) (r : Result ℕ Refusal) → FromLevelsAnswers file out r → FromLevelsWrites file out new
       → Obeys (from_levels_causes file (length out))
-      r converted.Refused (converted.Written (length (family_file_of file)))
+      r (λ n. Err (refusal_of 0 n)) (Ok (length (family_file_of file)))
       (new ∷ []) (out ∷ []) (at_start (family_file_of file) out ∷ [])
   -- The place that comes with 13 is the first one of the path whose peptide stands earlier too; no other number is.
   pub curve_place : (file path values marks : List ℕ) → first_cause (curve_causes file path values marks) ≡ 13 → IsFirstRepeat path (first_repeat path)

@@ -4,7 +4,11 @@ use mathlib.Core.List.{List, [], ◌∷◌, ◌++◌}
 use mathlib.Core.Path.{◌≡◌, refl, sym, ap, ap₂, ◌∙◌}
 use mathlib.Core.Logic.{⊎_elim, ◌↔◌}
 use Rattle.reader.specs.Causes.{Cause, first_cause}
-use Rattle.reader.specs.Calls.{Report, answer, written, at_start}
+use Rattle.std.specs.Prelude.{Result, Ok, Err}
+use Rattle.reader.specs.declared.refusal.Refusal.{Refusal}
+use Rattle.reader.specs.Refusals.{number_of, beside, Report, report}
+use Rattle.reader.specs.Calls.{answer, written, at_start}
+use Rattle.reader.proofs.Refusals.{number_some, learns_ok, learns_err}
 use Rattle.reader.proofs.Bools.{test}
 use Rattle.reader.proofs.First.{Numbered, first_holds, first_fails, head_clear, answers, declines, writes, leaves_unchanged}
 use Rattle.bounds.specs.declared.Listed.{Listed}
@@ -95,12 +99,15 @@ pub number_obeys : (cs : List Cause) (r : ℕ) (after before work : List (List �
     → Obeys cs r (λ n. n) 0 after before work
 number_obeys cs r after before work h lent = record { declined = λ some. (h, lent.0 some); done = λ none. (h ∙ none, lent.1 none) }
 
--- an answer that can be made again of its report
-pub remade_obeys : {A : Type 0} (cs : List Cause) (result : List ℕ) (report : A → Report) (make : ℕ → List ℕ → A) → ((r : A) → r ≡ make (report r).number (report r).values)
-    → (r : A) (after before work : List (List ℕ)) → report r ≡ answer cs result → Lent cs after before work
-    → Obeys cs r (λ n. make n []) (make 0 result) after before work
-remade_obeys cs result report make again r after before work h lent =
-    made_obeys cs result (λ told. make told.number told.values) r after before work (again r ∙ ap (λ told. make told.number told.values) h) lent
+-- an answer without a place
+pub result_obeys : {A : Type 0} (values : A → List ℕ) (make : List ℕ → A) → ((x : A) → x ≡ make (values x)) → (cs : List Cause) (vs : List ℕ) (r : Result A Refusal) (after before work : List (List ℕ)) → report values r ≡ answer cs vs → Lent cs after before work
+    → Obeys cs r (λ n. Err (refusal_of 0 n)) (Ok (make vs)) after before work
+result_obeys values make again cs vs (Ok x) after before work h lent =
+    let l = learns_ok values cs vs x h in
+    record { declined = λ some. absurd (some l.0); done = λ none. (ap Ok (again x ∙ ap make l.1), lent.1 none) }
+result_obeys values make again cs vs (Err e) after before work h lent =
+    let l = learns_err values cs vs e h in
+    record { declined = λ some. (ap Err (told_again_placeless e l.1 ∙ ap (refusal_of 0) l.0), lent.0 some); done = λ none. absurd (number_some e (l.0 ∙ none)) }
 
 -- an answer that is made of what a call with a path reports
 pub path_obeys : {A : Type 0} (cs : List Cause) (path result : List ℕ) (make : Report → A) (refusal : ℕ → A) → ((n : ℕ) → (n ≡ 0 → ⊥) → make (path_refusal path n) ≡ refusal n)

@@ -1,9 +1,10 @@
 -- How the answer of a call becomes the fields of a struct of C: the number, then the values in their order. A field that has
 -- no value is 0; a place comes with number 13 only; the tally of a declined list is the given one.
-use Rattle.std.specs.Prelude.{ℕ, ◌*◌, cond, List, get_or, eqb}
+use Rattle.std.specs.Prelude.{ℕ, ◌*◌, cond, List, [], get_or, eqb, Result, Ok, Err}
 use Rattle.reader.specs.Family.{family_of, leaves, region_count, regions_offset}
 use Rattle.reader.specs.Causes.{first_cause, file_causes}
-use Rattle.reader.specs.Calls.{Report}
+use Rattle.reader.specs.declared.refusal.Refusal.{Refusal}
+use Rattle.reader.specs.Refusals.{number_of, Report, report}
 use Rattle.bounds.specs.declared.Listed.{Listed}
 use Rattle.phf.specs.declared.PhfChecked.{PhfChecked}
 use Rattle.phf.specs.declared.PhfPart.{PhfPart}
@@ -14,6 +15,11 @@ use Rattle.phf.specs.declared.PhfCutting.{PhfCutting}
 use Rattle.phf.specs.declared.PhfReduced.{PhfReduced}
 use Rattle.phf.specs.declared.PhfCompared.{PhfCompared}
 use Rattle.phf.specs.declared.PhfConverted.{PhfConverted}
+
+-- what the answer of a call says beside whose refusals nothing is returned
+unfoldable pub placeless : {A : Type 0} → (A → List ℕ) → Result A Refusal → Report
+placeless values (Ok answer) = report values (Ok answer)
+placeless values (Err refusal) = record { number = number_of refusal; values = [] }
 
 -- the i-th value of an answer, counted from 0; 0 if it has none there
 unfoldable pub value_at : Report → ℕ → ℕ

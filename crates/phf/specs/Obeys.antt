@@ -1,6 +1,8 @@
 -- What demand 1 asks of a call: with bad input the first cause that holds, with its number, and every lent list unchanged; with no
 -- cause its work.
-use Rattle.std.specs.Prelude.{ℕ, ◌≤◌, true, false, List, [], ◌∷◌, ◌++◌, map, ◌≡◌}
+use Rattle.std.specs.Prelude.{ℕ, ◌-◌, ◌≤◌, true, false, List, [], ◌∷◌, ◌++◌, map, get_or, ◌≡◌}
+use Rattle.reader.specs.declared.refusal.Refusal.{Refusal}
+use Rattle.reader.specs.declared.refusal.Refusal.TheVariants.{Mark, PeptideCount, LeafCount, RegionCount, Layout, LeafLengths, Misplaced, Misordered, Crossing, TooDeep, PathLength, OffTheLine, Repeated, Selection, Fraction, Room, RowCount, Row, Rule, PValueCount, PValue, Deviation, Level, ListLength, Tally, LevelCounts, Levels}
 use Rattle.reader.specs.Causes.{Cause, first_cause}
 
 -- the numbers of the causes, in the order in which they are tried
@@ -10,6 +12,14 @@ numbers cs = map (λ c. c.number) cs
 abbrev pub NoneHolds : List Cause → Type 0
 NoneHolds [] = Unit {0}
 NoneHolds (c ∷ cs) = (c.holds ≡ false) × NoneHolds cs
+
+-- the refusals by their numbers, from 1 on; the one with 13 has this place
+abbrev pub refusals : ℕ → List Refusal
+refusals place = Mark ∷ PeptideCount ∷ LeafCount ∷ RegionCount ∷ Layout ∷ LeafLengths ∷ Misplaced ∷ Misordered ∷ Crossing ∷ TooDeep ∷ PathLength ∷ OffTheLine ∷ Repeated place ∷ Selection ∷ Fraction ∷ Room ∷ RowCount ∷ Row ∷ Rule ∷ PValueCount ∷ PValue ∷ Deviation ∷ Level ∷ ListLength ∷ Tally ∷ LevelCounts ∷ Levels ∷ []
+
+-- the refusal with this number, and with this place where it has one
+unfoldable pub refusal_of : ℕ → ℕ → Refusal
+refusal_of place n = get_or (refusals place) (n - 1) Levels
 
 -- none of the numbers is 0, which stands for no cause
 abbrev pub NoZero : List ℕ → Type 0
