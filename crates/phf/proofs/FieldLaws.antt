@@ -26,13 +26,11 @@ use Rattle.phf.specs.Fields.{placeless, value_at, value_with, part_fields, curve
 
 module _ {A : Type 0} (values : A → List ℕ) where
   pub placeless_told : (cs : List Cause) (vs : List ℕ) (r : Result A Refusal) → report values r ≡ answer cs vs → placeless values r ≡ answer cs vs
-  unfolding placeless
   placeless_told cs vs (Ok x) h = h
   placeless_told cs vs (Err e) h =
       ap (λ (l : List ℕ). record { number = number_of e; values = l }) (sym (learns_err values cs vs e h).1) ∙ h
 
   pub place_beside : (e : Refusal) → value_with 13 (report values (Err e)) ≡ get_or (beside e) 0 0
-  unfolding value_with value_at
   place_beside e =
       ⊎_elim
       (λ (t : eqb (number_of e) 13 ≡ true). rw t)
@@ -58,10 +56,10 @@ module _ (file : List ℕ) where
 -- the fields of a refusal on a path, by its number
 module _ (path : List ℕ) (n : ℕ) where
   pub curve_refusal_fields : curved_fields (path_refusal path n) ≡ record { number = n; place = cond (eqb n 13) (first_repeat path) 0 }
-  unfolding curved_fields value_with value_at path_refusal
+  unfolding path_refusal
   curve_refusal_fields = ⊎_elim (λ (t : eqb n 13 ≡ true). rw t) (λ (f : eqb n 13 ≡ false). rw f) (test (eqb n 13))
 
   pub cut_refusal_fields : (n ≡ 0 → ⊥) → cutting_fields (path_refusal path n) ≡ record { number = n; place = cond (eqb n 13) (first_repeat path) 0; cut = 0 }
-  unfolding cutting_fields value_with value_at path_refusal
+  unfolding path_refusal
   cut_refusal_fields some =
       ⊎_elim (λ (t : eqb n 13 ≡ true). rw (t, ne_eqb n 0 some)) (λ (f : eqb n 13 ≡ false). rw (f, ne_eqb n 0 some)) (test (eqb n 13))

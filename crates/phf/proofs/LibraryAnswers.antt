@@ -1,19 +1,50 @@
 -- What the calls of the libraries answer, told from the report of the answer.
---   told_again       a refusal is made again of its number and its place
---   ended, declined  the answer of a call, in each case
-use Prim.Native.Nat.{ℕ, ◌-◌}
+--   told_again      a refusal is made again of its number and of what is beside it
+--   plain_again     the same where nothing is beside it
+use Prim.Native.Nat.{ℕ}
+use native.Mathlib.Omega.{arith}
 use mathlib.Core.Bool.{true, false, cond}
 use mathlib.Core.List.{List, [], ◌∷◌}
 use mathlib.Core.Logic.{⊎_elim}
-use mathlib.Core.Path.{◌≡◌, refl, sym, ap, ◌∙◌}
-use lib.ListN.{get_or}
+use mathlib.Core.Path.{◌≡◌, refl, ap, ◌∙◌}
+use lib.ListN.{length, get_or}
 use lib.Dec.{eqb}
-use Rattle.std.specs.Prelude.{Result, Ok, Err}
-use Rattle.reader.specs.Causes.{Cause, first_cause}
+use borrow.Author.Tests.{eqb-true}
 use Rattle.reader.specs.declared.refusal.Refusal.{Refusal}
 use Rattle.reader.specs.declared.refusal.Refusal.TheVariants.{Mark, PeptideCount, LeafCount, RegionCount, Layout, LeafLengths, Misplaced, Misordered, Crossing, TooDeep, PathLength, OffTheLine, Repeated, Selection, Fraction, Room, RowCount, Row, Rule, PValueCount, PValue, Deviation, Level, ListLength, Tally, LevelCounts, Levels}
-use Rattle.reader.specs.Refusals.{number_of, beside, Report, report}
+use Rattle.reader.specs.Refusals.{number_of, beside}
+use Rattle.reader.proofs.Bools.{test}
 use Rattle.phf.specs.Obeys.{refusal_of}
+
+-- a refusal with number 13 has a place beside it
+place_there : (e : Refusal) → number_of e ≡ 13 → beside e ≡ [] → ⊥
+place_there Mark h none = omega arith
+place_there PeptideCount h none = omega arith
+place_there LeafCount h none = omega arith
+place_there RegionCount h none = omega arith
+place_there Layout h none = omega arith
+place_there LeafLengths h none = omega arith
+place_there Misplaced h none = omega arith
+place_there Misordered h none = omega arith
+place_there Crossing h none = omega arith
+place_there TooDeep h none = omega arith
+place_there PathLength h none = omega arith
+place_there OffTheLine h none = omega arith
+place_there (Repeated place) h none = omega (arith, ap length none)
+place_there Selection h none = omega arith
+place_there Fraction h none = omega arith
+place_there Room h none = omega arith
+place_there RowCount h none = omega arith
+place_there Row h none = omega arith
+place_there Rule h none = omega arith
+place_there PValueCount h none = omega arith
+place_there PValue h none = omega arith
+place_there Deviation h none = omega arith
+place_there Level h none = omega arith
+place_there ListLength h none = omega arith
+place_there Tally h none = omega arith
+place_there LevelCounts h none = omega arith
+place_there Levels h none = omega arith
 
 -- a refusal with this place beside it if its number is 13, else with nothing
 pub told_again : (place : ℕ) (e : Refusal) → beside e ≡ cond (eqb (number_of e) 13) (place ∷ []) [] → e ≡ refusal_of place (number_of e)
@@ -45,3 +76,11 @@ told_again place ListLength h = refl
 told_again place Tally h = refl
 told_again place LevelCounts h = refl
 told_again place Levels h = refl
+
+pub plain_again : (e : Refusal) → beside e ≡ [] → e ≡ refusal_of 0 (number_of e)
+plain_again e none =
+    told_again 0 e
+    (⊎_elim
+    (λ (t : eqb (number_of e) 13 ≡ true). absurd (place_there e (eqb-true (number_of e) 13 t) none))
+    (λ (f : eqb (number_of e) 13 ≡ false). none ∙ rw f refl)
+    (test (eqb (number_of e) 13)))

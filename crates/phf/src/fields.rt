@@ -1,7 +1,8 @@
 // What a call of the libraries answers, as the fields of a struct of C: the number of the refusal, 0 for none, then the values.
-ghost use Rattle.std.specs.Prelude.{◌≡◌, [], ◌∷◌, get_or};
+ghost use Rattle.std.specs.Prelude.{◌≡◌, get_or};
 ghost use Rattle.reader.specs.Refusals.{beside, verdict, report};
 ghost use Rattle.reader.specs.Calls.{sizes};
+ghost use Rattle.bounds.specs.Calls.{the_number, no_values, report_list};
 ghost use Rattle.reduction.specs.Calls.{report_compared, size};
 ghost use Rattle.phf.specs.Fields.{placeless, checked_fields, bounded_fields, listed_fields, curved_fields, cutting_fields, reduced_fields, compared_fields, converted_fields};
 
@@ -55,7 +56,7 @@ impl From<Result<Sizes, Refusal>> for PhfChecked {
 }
 
 impl From<Result<u16, Refusal>> for PhfBounded {
-    ghost from_gives = { λ answer fields. fields ≡ bounded_fields (placeless (λ bound. bound ∷ []) answer) };
+    ghost from_gives = { λ answer fields. fields ≡ bounded_fields (placeless the_number answer) };
 
     fn from(answer: Result<u16, Refusal>) -> PhfBounded {
         match answer {
@@ -70,7 +71,7 @@ impl From<Result<u16, Refusal>> for PhfBounded {
 
 // A declined list is charged nothing.
 impl From<Listed> for PhfListed {
-    ghost from_gives = { λ answer fields. fields ≡ listed_fields answer };
+    ghost from_gives = { λ answer fields. fields ≡ listed_fields (report_list answer) };
 
     fn from(answer: Listed) -> PhfListed {
         let tally = answer.tally;
@@ -90,7 +91,7 @@ impl From<Listed> for PhfListed {
 }
 
 impl From<Result<(), Refusal>> for PhfCurved {
-    ghost from_gives = { λ answer fields. fields ≡ curved_fields (report (λ _. []) answer) };
+    ghost from_gives = { λ answer fields. fields ≡ curved_fields (report no_values answer) };
 
     fn from(answer: Result<(), Refusal>) -> PhfCurved {
         match answer {
@@ -107,7 +108,7 @@ impl From<Result<(), Refusal>> for PhfCurved {
 }
 
 impl From<Result<u16, Refusal>> for PhfCutting {
-    ghost from_gives = { λ answer fields. fields ≡ cutting_fields (report (λ cut. cut ∷ []) answer) };
+    ghost from_gives = { λ answer fields. fields ≡ cutting_fields (report the_number answer) };
 
     fn from(answer: Result<u16, Refusal>) -> PhfCutting {
         match answer {
@@ -162,7 +163,7 @@ impl From<Result<bool, PairRefusal>> for PhfCompared {
 }
 
 impl From<Result<u16, Refusal>> for PhfConverted {
-    ghost from_gives = { λ answer fields. fields ≡ converted_fields (placeless (λ length. length ∷ []) answer) };
+    ghost from_gives = { λ answer fields. fields ≡ converted_fields (placeless the_number answer) };
 
     fn from(answer: Result<u16, Refusal>) -> PhfConverted {
         match answer {
