@@ -1,11 +1,11 @@
 -- The live peptides as a selection: m bytes, each 0 or 1, which the call for the inside totals takes.
-use Prim.Native.Nat.{ℕ, ◌-◌, ◌≤◌}
+use Prim.Native.Nat.{ℕ, ◌≤◌}
 use mathlib.Core.Bool.{false}
 use mathlib.Core.List.{List}
-use mathlib.Core.Path.{◌≡◌, ap, ◌∙◌}
+use mathlib.Core.Path.{◌≡◌, sym, ap, ◌∙◌}
 use native.Mathlib.Omega.{arith}
 use lib.ListN.{length, take, drop, length-append}
-use lib.Seq.{take_at}
+use lib.Seq.{take_at, length-take-le}
 use Rattle.reader.specs.Family.{Family, family_of}
 use Rattle.reader.specs.Causes.{first_cause, Accepted}
 use Rattle.reader.specs.Calls.{written}
@@ -32,8 +32,11 @@ module _ (F : Family) (L : List ℕ) (begins : Begins (live_bytes F) L) where
   pub live_room : F.peptides ≤ length L
   live_room = omega (arith, live_length F, ap length begins.1, length-append (live_bytes F) begins.0)
 
-  pub live_part : (m : ℕ) → m ≡ F.peptides → take (m - 0) L ≡ live_bytes F
-  live_part m e = ap (take (m - 0)) begins.1 ∙ take_at (live_bytes F) begins.0 (m - 0) (omega (arith, live_length F))
+  pub live_fills : (m : ℕ) → m ≡ F.peptides → m ≡ length (take m L)
+  live_fills m e = sym (length-take-le m L (omega (arith, live_room)))
+
+  pub live_part : (m : ℕ) → m ≡ F.peptides → take m L ≡ live_bytes F
+  live_part m e = ap (take m) begins.1 ∙ take_at (live_bytes F) begins.0 m (omega (arith, live_length F))
 
 module _ (s : List ℕ) (accepted : Accepted s) (old : List ℕ) (room : 8191 ≤ length old) where
   none_holds : first_cause (selection_causes s (live_bytes (family_of s)) old) ≡ 0

@@ -240,8 +240,11 @@ begins_run_lem X p e b r =
 
 -- as the live bytes say it
 module _ (F : Family) (X : List ℕ) (b : Begins (live_bytes F) X) (p : ℕ) where
-  pub run_here : (e : ℕ) → 1 ≤ p → begins_run (selected X) p ≡ true → RunTo F.peptides (selected X) p e → DeadRun F.peptides (live (ranges_of F)) p e
+  run_here : (e : ℕ) → 1 ≤ p → begins_run (selected X) p ≡ true → RunTo F.peptides (selected X) p e → DeadRun F.peptides (live (ranges_of F)) p e
   run_here e h t r = run_same (selected X) (live (ranges_of F)) (lives_same F X b) (run_begins (selected X) p e h t r)
+
+  pub run_at : (m e : ℕ) → m ≡ F.peptides → 1 ≤ p → begins_run (selected X) p ≡ true → RunTo m (selected X) p e → DeadRun F.peptides (live (ranges_of F)) p e
+  run_at m e i h t r = run_here e h t (subst (λ (n : ℕ). RunTo n (selected X) p e) i r)
 
   pub no_run_here : begins_run (selected X) p ≡ false → (e : ℕ) → DeadRun F.peptides (live (ranges_of F)) p e → ⊥
   no_run_here t e r = begins_run_lem (selected X) p e t (run_same (live (ranges_of F)) (selected X) (λ q l u. sym (lives_same F X b q l u)) r)

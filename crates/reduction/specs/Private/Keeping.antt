@@ -1,11 +1,12 @@
 -- What the private functions that find the kept stretches and list the reduced ranges promise each other.
-use Rattle.std.specs.Prelude.{ℕ, suc, ◌+◌, ◌-◌, ◌≤◌, ◌<◌, Bool, true, false, not, cond, ◌&&◌, ◌||◌, List, map, ◌⊎◌, ◌≡◌, length, get_or, ltb, eqb}
+use Rattle.std.specs.Prelude.{ℕ, suc, ◌+◌, ◌-◌, ◌≤◌, ◌<◌, Bool, true, false, not, cond, ◌&&◌, ◌||◌, List, map, ◌⊎◌, Option, Some, None, ◌≡◌, length, get_or, ltb, eqb}
 use Rattle.reader.specs.Lists.{some_below}
 use Rattle.reader.specs.Family.{Family, region, region_count}
 use Rattle.reader.specs.WellFormed.{WellFormed}
 use Rattle.bounds.specs.Ranges.{Range, Peptides, range_of, ranges_of, those, In}
 use Rattle.bounds.specs.Bound.{total}
 use Rattle.reduction.specs.Reduction.{live}
+use Rattle.reduction.specs.declared.keep.Ranges.{Ranges}
 use Rattle.reduction.specs.Private.Steps.{Begins, live_bytes, first_live, last_live, reduced_ranges}
 
 -- the first and the last peptide of the stretch of the k-th region, counted from 0; 0 and 0 if it has none
@@ -76,6 +77,11 @@ pub record NextStretch (F : Family) (k c : ℕ) : Type 0 where
   pub later : (j : ℕ) → c ≡ suc j → (k ≤ j) × (j < region_count F) × (1 ≤ first_at F j)
   pub first : (j : ℕ) → c ≡ suc j → (i : ℕ) → k ≤ i → i < j → first_at F i ≡ 0
 
+-- the number, counted from 1, of the region at a place; 0 for none
+abbrev pub counted : Option ℕ → ℕ
+counted None = 0
+counted (Some i) = i + 1
+
 -- the smallest z of the k-th region's stretch, or 0 if the region with the number c has the same stretch or the stretch is not kept
 unfoldable pub kept_bound : List ℕ → List ℕ → List ℕ → List ℕ → List ℕ → ℕ → ℕ → ℕ
 kept_bound A B T Z W c k =
@@ -131,3 +137,7 @@ pub record RunsAhead (F : Family) (X : List ℕ) (q e : ℕ) (A B Z : List ℕ) 
 -- these n ranges are listed, with some choice of stretches
 abbrev pub SomeGathered : Family → ℕ → ℕ → List ℕ → List ℕ → List ℕ → Type 0
 SomeGathered F q n A B Z = (t : Range → Bool) × Gathered F t q n A B Z
+
+-- the places of the ranges are as long as before
+abbrev pub AsLong : Ranges → Ranges → Type 0
+AsLong old new = (length new.from.now ≡ length old.from.now) × (length new.to.now ≡ length old.to.now) × (length new.bounds.now ≡ length old.bounds.now)

@@ -1,15 +1,15 @@
--- The loop has listed the kept stretches of the first k regions and the runs that begin up to the last peptide passed.
-use Prim.Native.Nat.{◌+◌, ◌-◌, ◌≤◌}
-use mathlib.Core.Path.{◌≡◌}
-use lib.ListN.{length}
-use Rattle.reader.specs.Family.{family_of, region_count}
-use Rattle.reduction.specs.Private.Keeping.{of_first, Passed, Gathered}
+-- The loop has listed the kept stretches of the first k regions and the runs that begin before the peptide `begin`.
+use Rattle.std.proofs.Common.{◌≡◌}
+use Rattle.reader.specs.Family.{family_of}
+use Rattle.reduction.specs.Private.Keeping.{of_first, Passed, Gathered, AsLong}
 use Rattle.reduction.proofs.keep.gather.Given as goal
 
 abbrev pub invariant-loop-k : goal.invariant-loop-k
-invariant-loop-k l = (l.k ≤ l.regions) × (l.peptides ≡ (family_of l.file).peptides) × (l.regions ≡ region_count (family_of l.file))
-    × (length l.from ≡ length l.initial.from) × (length l.to ≡ length l.initial.to) × (length l.bounds ≡ length l.initial.bounds)
-    × Passed (family_of l.file) l.kept l.k (l.passed.0 + 1) × Gathered (family_of l.file) (of_first (family_of l.file) l.kept l.k) (l.passed.0 + 1) l.n l.from l.to l.bounds
-
-abbrev pub decreases-loop-k : goal.decreases-loop-k
-decreases-loop-k l = l.regions - l.k
+invariant-loop-k l = record {
+  same_from : l.ranges.from.ghost_name ≡ l.initial.ranges.from.ghost_name;
+  same_to : l.ranges.to.ghost_name ≡ l.initial.ranges.to.ghost_name;
+  same_bounds : l.ranges.bounds.ghost_name ≡ l.initial.ranges.bounds.ghost_name;
+  as_long : AsLong l.initial.ranges l.ranges;
+  passed : Passed (family_of l.file) l.kept l.k l.begin;
+  gathered : Gathered (family_of l.file) (of_first (family_of l.file) l.kept l.k) l.begin l.ranges.count l.ranges.from.now l.ranges.to.now l.ranges.bounds.now;
+}

@@ -12,27 +12,19 @@ m-read : (c : After-peptide_count-m) → c.peptide_count-m.result ≡ (family_of
 m-read c = c.peptide_count-m.ensures
 
 m-small : (c : After-peptide_count-m) → c.peptide_count-m.result ≤ 4096
-m-small c = omega (arith, m-read c, c.requires.with_lives.ended.formed.peptides_most)
+m-small c = omega (arith, m-read c, c.requires.ended.formed.peptides_most)
 
 pub fill_after-requires : goal.fill_after-requires
-fill_after-requires c =
-    record { few = m-small (goal.at.fill_after-requires c).After-peptide_count-m; bytes = omega (arith, m-read (goal.at.fill_after-requires c).After-peptide_count-m, c.requires.with_lives.bytes); places = omega (arith, m-small (goal.at.fill_after-requires c).After-peptide_count-m) }
+fill_after-requires c = m-small (goal.at.fill_after-requires c).After-peptide_count-m
 
 pub fill_before-requires : goal.fill_before-requires
-fill_before-requires c =
-    record { few = m-small (goal.at.fill_before-requires c).After-peptide_count-m; bytes = omega (arith, m-read (goal.at.fill_before-requires c).After-peptide_count-m, c.requires.with_lives.bytes); places = omega (arith, m-small (goal.at.fill_before-requires c).After-peptide_count-m) }
+fill_before-requires c = m-small (goal.at.fill_before-requires c).After-peptide_count-m
 
 pub write_nearest-requires : goal.write_nearest-requires
 write_nearest-requires c =
     let pre = c.requires in
-    let m = m-read (goal.at.write_nearest-requires c).After-peptide_count-m in
-    let few = m-small (goal.at.write_nearest-requires c).After-peptide_count-m in record {
-      with_nearest = record {
-        ended = pre.with_lives.ended;
-        nexts = nexts_live _ _ pre.with_lives.lives _ c.fill_after.new.after m c.fill_after.ensures;
-        lasts = lasts_live_lem _ _ pre.with_lives.lives _ c.fill_before.new.before m c.fill_before.ensures;
-        places_after = omega (arith, c.fill_after.auto.after);
-        places_before = omega (arith, c.fill_before.auto.before);
-      };
-      room_for_regions = pre.room_for_regions;
+    let m = m-read (goal.at.write_nearest-requires c).After-peptide_count-m in record {
+      ended = pre.ended;
+      nexts = nexts_live _ _ pre.lives _ c.fill_after.new.after m c.fill_after.ensures;
+      lasts = lasts_live_lem _ _ pre.lives _ c.fill_before.new.before m c.fill_before.ensures;
     }
