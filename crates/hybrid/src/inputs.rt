@@ -10,10 +10,7 @@ use pvalues::inputs::room_and_p_cause;
 fn bad_level(level: u32) -> bool
     ensures { result ≡ cause23 level }
 {
-    if level == 0 {
-        return true;
-    }
-    1000000 < level
+    level == 0 || 1000000 < level
 }
 
 // The first cause of `hybrid` after those of the file and the path that holds, with so many places for values, or 0.

@@ -10,7 +10,6 @@ use Rattle.reader.specs.Causes.{first_cause}
 use Rattle.bounds.specs.Calls.{input_causes, curve_causes, report_curve, declined_curve, CurveAnswers, CurveDeclines}
 use Rattle.bounds.specs.declared.Curved.{Curved}
 use Rattle.bounds.specs.declared.Curved.TheVariants as curved
-use Rattle.bounds.proofs.Calls.PathLaws.{input_few}
 use Rattle.bounds.proofs.Calls.Answering.{curve_judges}
 use Rattle.hybrid.proofs.Calls.{HybridDone, hybrid_known, hybrid_refuses, hybrid_declines, hybrid_writes, region_curve}
 use Rattle.hybrid.proofs.hybrid.Goals as goal
@@ -41,7 +40,7 @@ pub write_smaller-requires : goal.write_smaller-requires
 write_smaller-requires c =
     let free = clear (goal.at.write_smaller-requires c).In-Written in
     let k = hybrid_known _ _ _ _ _ free (sym c.hybrid_cause-number.ensures ∙ c.if-number-ne0.false) in
-    record { simes_inputs = rw c.peptide_count.ensures k.0; path_in_bounds = omega (arith, input_few _ _ free, length-replicate {A = ℕ} 4097 0, c.curve.auto.values); path_in_bounds_2 = k.1 }
+    record { simes_inputs = rw c.peptide_count.ensures k.0; room = k.1 }
 
 pub returns-else-number-ne0 : goal.returns-else-number-ne0
 unfolding report_curve declined_curve

@@ -8,8 +8,8 @@ use Rattle.reader.specs.Causes.{first_cause}
 use Rattle.reader.specs.Calls.{short}
 use Rattle.pvalues.specs.Calls.{room_and_p_values}
 use Rattle.pvalues.proofs.Judging.{room_16, counted_20, judged_21}
-use Rattle.pvalues.proofs.inputs.room_and_p_cause.Goals as goal
-use Rattle.pvalues.proofs.inputs.room_and_p_cause.Goals.{After-bad_p_values}
+use Rattle.pvalues.proofs.inputs.check_room_and_p_values.Goals as goal
+use Rattle.pvalues.proofs.inputs.check_room_and_p_values.Goals.{After-bad_p_values}
 
 -- there is room
 enough : (needed room : ℕ) → needed ≤ room → short needed room ≡ false
@@ -34,6 +34,6 @@ pub returns-then-bad_p_values : goal.returns-then-bad_p_values
 returns-then-bad_p_values c =
     rw c.if-bad_p_values.true at (judged (goal.at.returns-then-bad_p_values c).After-bad_p_values)
 
-pub returns-else-bad_p_values : goal.returns-else-bad_p_values
-returns-else-bad_p_values c =
-    rw c.if-bad_p_values.false at (judged (goal.at.returns-else-bad_p_values c).After-bad_p_values)
+pub returns : goal.returns
+returns c =
+    rw c.if-bad_p_values.false at (judged (goal.at.returns c).After-bad_p_values)

@@ -5,8 +5,8 @@ use native.Mathlib.Omega.{arith}
 use Rattle.pvalues.specs.FromP.{passes}
 use Rattle.pvalues.proofs.Theory.Passing.{fails_positive}
 use Rattle.pvalues.proofs.Theory.Largest.{largest_here, largest_below}
-use Rattle.pvalues.proofs.lowering.lowered.Goals as goal
-use Rattle.pvalues.proofs.lowering.lowered.Goals.{In-loop-v}
+use Rattle.pvalues.proofs.lowering.largest_passing.Goals as goal
+use Rattle.pvalues.proofs.lowering.largest_passing.Goals.{In-loop-v}
 
 -- the place after a test that failed
 fails : (c : In-loop-v) → let a = c.args in passes a.deviation_squared a.gap a.over c.loop-v.v ≡ false
