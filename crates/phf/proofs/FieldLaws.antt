@@ -1,5 +1,6 @@
 -- The fields of each case of an answer.
 --   placeless_told     what a call's promise says of its answer, where no place belongs to it
+--   pair_told          the same of a comparison
 --   place_beside       the place of an answer with a path is what is returned beside its refusal
 use Prim.Native.Nat.{ℕ, ◌*◌}
 use native.Mathlib.Omega.{arith}
@@ -17,12 +18,27 @@ use Rattle.reader.specs.Causes.{Cause, first_cause, file_causes, Accepted}
 use Rattle.reader.specs.declared.refusal.Refusal.{Refusal}
 use Rattle.reader.specs.Refusals.{number_of, beside, Report, report}
 use Rattle.reader.specs.Calls.{answer, region_part}
-use Rattle.reader.proofs.Refusals.{learns_err, nothing_beside}
+use Rattle.reader.proofs.Refusals.{number_some, learns_err, nothing_beside}
+use Rattle.reader.proofs.First.{answers, declines, none_or_some}
 use Rattle.reader.proofs.Bools.{test}
 use Rattle.reader.proofs.Accepting.{accepted_header, whole_length, part_accepted}
 use Rattle.bounds.specs.Curves.{first_repeat}
 use Rattle.bounds.specs.Calls.{path_refusal}
-use Rattle.phf.specs.Fields.{placeless, value_at, value_with, part_fields, curved_fields, cutting_fields}
+use Rattle.reduction.specs.declared.PairRefusal.{PairRefusal}
+use Rattle.reduction.specs.declared.PairRefusal.TheVariants.{First, Second}
+use Rattle.reduction.specs.Calls.{pair_number, pair_beside, report_compared}
+use Rattle.phf.specs.Fields.{placeless, placeless_pair, value_at, value_with, part_fields, curved_fields, cutting_fields}
+
+pub pair_some : (e : PairRefusal) → pair_number e ≡ 0 → ⊥
+pair_some (First e) h = number_some e h
+pair_some (Second e) h = omega arith
+
+pub pair_learns : (cs : List Cause) (vs : List ℕ) (e : PairRefusal) → report_compared (Err e) ≡ answer cs vs → (pair_number e ≡ first_cause cs) × (pair_beside e ≡ [])
+pair_learns cs vs e h =
+    ⊎_elim
+    (λ z. absurd (pair_some e (ap (λ (r : Report). r.number) (h ∙ answers cs z vs))))
+    (λ s. let d = h ∙ declines cs s vs in (ap (λ (r : Report). r.number) d, ap (λ (r : Report). r.values) d))
+    (none_or_some cs)
 
 module _ {A : Type 0} (values : A → List ℕ) where
   pub placeless_told : (cs : List Cause) (vs : List ℕ) (r : Result A Refusal) → report values r ≡ answer cs vs → placeless values r ≡ answer cs vs
@@ -36,6 +52,10 @@ module _ {A : Type 0} (values : A → List ℕ) where
       (λ (t : eqb (number_of e) 13 ≡ true). rw t)
       (λ (f : eqb (number_of e) 13 ≡ false). rw f (sym (ap (λ (l : List ℕ). get_or l 0 0) (nothing_beside e (eqb-false (number_of e) 13 f)))))
       (test (eqb (number_of e) 13))
+
+pub pair_told : (cs : List Cause) (vs : List ℕ) (r : Result Bool PairRefusal) → report_compared r ≡ answer cs vs → placeless_pair r ≡ answer cs vs
+pair_told cs vs (Ok same) h = h
+pair_told cs vs (Err e) h = ap (λ (l : List ℕ). record { number = pair_number e; values = l }) (sym (pair_learns cs vs e h).1) ∙ h
 
 -- The place of the regions.
 

@@ -1,20 +1,25 @@
 -- What the calls of the libraries answer, told from the report of the answer.
 --   told_again      a refusal is made again of its number and of what is beside it
 --   plain_again     the same where nothing is beside it
-use Prim.Native.Nat.{ℕ}
+--   pair_again      the same of two families
+use Prim.Native.Nat.{ℕ, ◌+◌, ◌-◌}
 use native.Mathlib.Omega.{arith}
 use mathlib.Core.Bool.{true, false, cond}
 use mathlib.Core.List.{List, [], ◌∷◌}
 use mathlib.Core.Logic.{⊎_elim}
 use mathlib.Core.Path.{◌≡◌, refl, ap, ◌∙◌}
 use lib.ListN.{length, get_or}
-use lib.Dec.{eqb}
-use borrow.Author.Tests.{eqb-true}
+use lib.Dec.{eqb, ltb}
+use borrow.Author.Tests.{eqb-true, le-ltb}
 use Rattle.reader.specs.declared.refusal.Refusal.{Refusal}
 use Rattle.reader.specs.declared.refusal.Refusal.TheVariants.{Mark, PeptideCount, LeafCount, RegionCount, Layout, LeafLengths, Misplaced, Misordered, Crossing, TooDeep, PathLength, OffTheLine, Repeated, Selection, Fraction, Room, RowCount, Row, Rule, PValueCount, PValue, Deviation, Level, ListLength, Tally, LevelCounts, Levels}
 use Rattle.reader.specs.Refusals.{number_of, beside}
 use Rattle.reader.proofs.Bools.{test}
-use Rattle.phf.specs.Obeys.{refusal_of}
+use Rattle.reader.proofs.Refusals.{number_some}
+use Rattle.reduction.specs.declared.PairRefusal.{PairRefusal}
+use Rattle.reduction.specs.declared.PairRefusal.TheVariants.{First, Second}
+use Rattle.reduction.specs.Calls.{pair_number, pair_beside}
+use Rattle.phf.specs.Obeys.{refusal_of, pair_refusal_of}
 
 -- a refusal with number 13 has a place beside it
 place_there : (e : Refusal) → number_of e ≡ 13 → beside e ≡ [] → ⊥
@@ -84,3 +89,40 @@ plain_again e none =
     (λ (t : eqb (number_of e) 13 ≡ true). absurd (place_there e (eqb-true (number_of e) 13 t) none))
     (λ (f : eqb (number_of e) 13 ≡ false). none ∙ rw f refl)
     (test (eqb (number_of e) 13)))
+
+below_101 : (e : Refusal) → ltb (number_of e) 101 ≡ true
+below_101 Mark = refl
+below_101 PeptideCount = refl
+below_101 LeafCount = refl
+below_101 RegionCount = refl
+below_101 Layout = refl
+below_101 LeafLengths = refl
+below_101 Misplaced = refl
+below_101 Misordered = refl
+below_101 Crossing = refl
+below_101 TooDeep = refl
+below_101 PathLength = refl
+below_101 OffTheLine = refl
+below_101 (Repeated place) = refl
+below_101 Selection = refl
+below_101 Fraction = refl
+below_101 Room = refl
+below_101 RowCount = refl
+below_101 Row = refl
+below_101 Rule = refl
+below_101 PValueCount = refl
+below_101 PValue = refl
+below_101 Deviation = refl
+below_101 Level = refl
+below_101 ListLength = refl
+below_101 Tally = refl
+below_101 LevelCounts = refl
+below_101 Levels = refl
+
+pub pair_again : (e : PairRefusal) → pair_beside e ≡ [] → e ≡ pair_refusal_of (pair_number e)
+unfolding pair_refusal_of
+pair_again (First e) none = rw (below_101 e) (ap First (plain_again e none))
+pair_again (Second e) none =
+    let past : ltb (number_of e + 100) 101 ≡ false = le-ltb (number_of e + 100) 101 (omega (arith, number_some e)) in
+    let back : (number_of e + 100) - 100 ≡ number_of e = omega arith in
+    rw (past, back) (ap Second (plain_again e none))

@@ -1,6 +1,8 @@
 -- How a promise in the words of `answer`, `path_answer`, `listed` and `written` becomes demand 1.
 use Prim.Native.Nat.{ℕ, ◌+◌}
 use native.Mathlib.Omega.{arith}
+use mathlib.Core.Bool.{Bool, true, false, cond}
+use lib.ListN.{get_or}
 use mathlib.Core.List.{List, [], ◌∷◌, ◌++◌}
 use mathlib.Core.Path.{◌≡◌, refl, sym, ap, ap₂, ◌∙◌}
 use mathlib.Core.Logic.{⊎_elim, ◌↔◌}
@@ -17,8 +19,11 @@ use Rattle.bounds.specs.declared.Listed.{Listed}
 use Rattle.bounds.specs.Calls.{ListReport, charge_in, report_list, path_refusal, path_answer, listed}
 use Rattle.bounds.proofs.Calls.ListCalls.{charges_nothing, charges}
 use Rattle.bounds.proofs.Calls.Answering.{path_answers, path_refuses}
-use Rattle.phf.specs.Obeys.{numbers, refusal_of, NoZero, NoneHolds, FirstHolds, Obeys}
-use Rattle.phf.proofs.LibraryAnswers.{told_again, plain_again}
+use Rattle.reduction.specs.declared.PairRefusal.{PairRefusal}
+use Rattle.reduction.specs.Calls.{report_compared}
+use Rattle.phf.specs.Obeys.{numbers, refusal_of, pair_refusal_of, NoZero, NoneHolds, FirstHolds, Obeys}
+use Rattle.phf.proofs.LibraryAnswers.{told_again, plain_again, pair_again}
+use Rattle.phf.proofs.FieldLaws.{pair_some, pair_learns}
 
 -- The first cause that holds.
 
@@ -123,6 +128,27 @@ pub verdict_obeys : (cs : List Cause) → Lacks 13 cs → (r : Result (Unit {0})
 verdict_obeys cs no13 (Ok done) after before work h lent = record { declined = λ some. absurd (some (sym h)); done = λ none. (refl, lent.1 none) }
 verdict_obeys cs no13 (Err e) after before work h lent =
     record { declined = λ some. (ap Err (refused_again cs no13 e h), lent.0 some); done = λ none. absurd (number_some e (h ∙ none)) }
+
+no_one : ◌≡◌ {A = ℕ} 0 1 → ⊥
+no_one h = omega arith
+
+one_or_none : (a b : Bool) → ◌≡◌ {A = ℕ} (cond a 1 0) (cond b 1 0) → a ≡ b
+one_or_none true true h = refl
+one_or_none false false h = refl
+one_or_none true false h = absurd (no_one (sym h))
+one_or_none false true h = absurd (no_one h)
+
+-- a comparison of two families
+pub pair_obeys : (cs : List Cause) (alike : Bool) (r : Result Bool PairRefusal) (after before work : List (List ℕ)) → report_compared r ≡ answer cs (cond alike 1 0 ∷ []) → Lent cs after before work
+    → Obeys cs r (λ n. Err (pair_refusal_of n)) (Ok alike) after before work
+pair_obeys cs alike (Ok same) after before work h lent =
+    record {
+      declined = λ some. absurd (some (sym (ap (λ (t : Report). t.number) (h ∙ declines cs some (cond alike 1 0 ∷ [])))));
+      done = λ none. (ap Ok (one_or_none same alike (ap (λ (t : Report). get_or t.values 0 0) (h ∙ answers cs none (cond alike 1 0 ∷ [])))), lent.1 none);
+    }
+pair_obeys cs alike (Err e) after before work h lent =
+    let l = pair_learns cs (cond alike 1 0 ∷ []) e h in
+    record { declined = λ some. (ap Err (pair_again e l.1 ∙ ap pair_refusal_of l.0), lent.0 some); done = λ none. absurd (pair_some e (l.0 ∙ none)) }
 
 -- an answer to a path
 pub path_result_obeys : {A : Type 0} (values : A → List ℕ) (make : List ℕ → A) → ((x : A) → x ≡ make (values x)) → (cs : List Cause) (path vs : List ℕ) (r : Result A Refusal) (after before work : List (List ℕ)) → report values r ≡ path_answer cs path vs → Lent cs after before work

@@ -1,11 +1,13 @@
 -- How the answer of a call becomes the fields of a struct of C: the number, then the values in their order. A field that has
 -- no value is 0; a place comes with number 13 only; the tally of a declined list is the given one.
-use Rattle.std.specs.Prelude.{ℕ, ◌*◌, cond, List, [], get_or, eqb, Result, Ok, Err}
+use Rattle.std.specs.Prelude.{ℕ, ◌*◌, Bool, cond, List, [], get_or, eqb, Result, Ok, Err}
 use Rattle.reader.specs.Family.{family_of, leaves, region_count, regions_offset}
 use Rattle.reader.specs.Causes.{first_cause, file_causes}
 use Rattle.reader.specs.declared.refusal.Refusal.{Refusal}
 use Rattle.reader.specs.Refusals.{number_of, Report, report}
 use Rattle.bounds.specs.Calls.{ListReport}
+use Rattle.reduction.specs.declared.PairRefusal.{PairRefusal}
+use Rattle.reduction.specs.Calls.{pair_number, report_compared}
 use Rattle.phf.specs.declared.PhfChecked.{PhfChecked}
 use Rattle.phf.specs.declared.PhfPart.{PhfPart}
 use Rattle.phf.specs.declared.PhfBounded.{PhfBounded}
@@ -20,6 +22,11 @@ use Rattle.phf.specs.declared.PhfConverted.{PhfConverted}
 abbrev pub placeless : {A : Type 0} → (A → List ℕ) → Result A Refusal → Report
 placeless values (Ok answer) = report values (Ok answer)
 placeless values (Err refusal) = record { number = number_of refusal; values = [] }
+
+-- the same of a comparison
+abbrev pub placeless_pair : Result Bool PairRefusal → Report
+placeless_pair (Ok same) = report_compared (Ok same)
+placeless_pair (Err refusal) = record { number = pair_number refusal; values = [] }
 
 -- the i-th value of an answer, counted from 0; 0 if it has none there
 abbrev pub value_at : Report → ℕ → ℕ

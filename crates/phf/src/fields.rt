@@ -3,8 +3,8 @@ ghost use Rattle.std.specs.Prelude.{◌≡◌, get_or};
 ghost use Rattle.reader.specs.Refusals.{beside, verdict, report};
 ghost use Rattle.reader.specs.Calls.{sizes};
 ghost use Rattle.bounds.specs.Calls.{the_number, no_values, report_list};
-ghost use Rattle.reduction.specs.Calls.{report_compared, size};
-ghost use Rattle.phf.specs.Fields.{placeless, checked_fields, bounded_fields, listed_fields, curved_fields, cutting_fields, reduced_fields, compared_fields, converted_fields};
+ghost use Rattle.reduction.specs.Calls.{size_values};
+ghost use Rattle.phf.specs.Fields.{placeless, placeless_pair, checked_fields, bounded_fields, listed_fields, curved_fields, cutting_fields, reduced_fields, compared_fields, converted_fields};
 
 use crate::{
     PhfBounded, PhfChecked, PhfCompared, PhfConverted, PhfCurved, PhfCutting, PhfListed, PhfReduced,
@@ -127,7 +127,7 @@ impl From<Result<u16, Refusal>> for PhfCutting {
 }
 
 impl From<Result<Size, Refusal>> for PhfReduced {
-    ghost from_gives = { λ answer fields. fields ≡ reduced_fields (placeless size answer) };
+    ghost from_gives = { λ answer fields. fields ≡ reduced_fields (placeless size_values answer) };
 
     fn from(answer: Result<Size, Refusal>) -> PhfReduced {
         match answer {
@@ -146,7 +146,7 @@ impl From<Result<Size, Refusal>> for PhfReduced {
 }
 
 impl From<Result<bool, PairRefusal>> for PhfCompared {
-    ghost from_gives = { λ answer fields. fields ≡ compared_fields (report_compared answer) };
+    ghost from_gives = { λ answer fields. fields ≡ compared_fields (placeless_pair answer) };
 
     fn from(answer: Result<bool, PairRefusal>) -> PhfCompared {
         match answer {
