@@ -18,20 +18,16 @@ use Rattle.reader.specs.Causes.{Cause, first_cause, file_causes, Accepted}
 use Rattle.reader.specs.declared.refusal.Refusal.{Refusal}
 use Rattle.reader.specs.Refusals.{number_of, beside, Report, report}
 use Rattle.reader.specs.Calls.{answer, region_part}
-use Rattle.reader.proofs.Refusals.{number_some, learns_err, nothing_beside}
+use Rattle.reader.proofs.Refusals.{learns_err, nothing_beside}
 use Rattle.reader.proofs.First.{answers, declines, none_or_some}
 use Rattle.reader.proofs.Bools.{test}
 use Rattle.reader.proofs.Accepting.{accepted_header, whole_length, part_accepted}
 use Rattle.bounds.specs.Curves.{first_repeat}
 use Rattle.bounds.specs.Calls.{path_refusal}
 use Rattle.reduction.specs.declared.PairRefusal.{PairRefusal}
-use Rattle.reduction.specs.declared.PairRefusal.TheVariants.{First, Second}
 use Rattle.reduction.specs.Calls.{pair_number, pair_beside, report_compared}
+use Rattle.reduction.proofs.Calls.ReduceCalls.{pair_some}
 use Rattle.phf.specs.Fields.{placeless, placeless_pair, value_at, value_with, part_fields, curved_fields, cutting_fields}
-
-pub pair_some : (e : PairRefusal) → pair_number e ≡ 0 → ⊥
-pair_some (First e) h = number_some e h
-pair_some (Second e) h = omega arith
 
 pub pair_learns : (cs : List Cause) (vs : List ℕ) (e : PairRefusal) → report_compared (Err e) ≡ answer cs vs → (pair_number e ≡ first_cause cs) × (pair_beside e ≡ [])
 pair_learns cs vs e h =

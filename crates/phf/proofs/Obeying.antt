@@ -23,7 +23,8 @@ use Rattle.reduction.specs.declared.PairRefusal.{PairRefusal}
 use Rattle.reduction.specs.Calls.{report_compared}
 use Rattle.phf.specs.Obeys.{numbers, refusal_of, pair_refusal_of, NoZero, NoneHolds, FirstHolds, Obeys}
 use Rattle.phf.proofs.LibraryAnswers.{told_again, plain_again, pair_again}
-use Rattle.phf.proofs.FieldLaws.{pair_some, pair_learns}
+use Rattle.reduction.proofs.Calls.ReduceCalls.{pair_some}
+use Rattle.phf.proofs.FieldLaws.{pair_learns}
 
 -- The first cause that holds.
 

@@ -61,10 +61,10 @@ impl From<Result<u16, Refusal>> for PhfBounded {
     fn from(answer: Result<u16, Refusal>) -> PhfBounded {
         match answer {
             Ok(bound) => PhfBounded { number: 0, bound },
-            Err(refusal) => PhfBounded {
-                number: refusal.into(),
-                bound: 0,
-            },
+            Err(refusal) => {
+                let number = refusal.into();
+                PhfBounded { number, bound: 0 }
+            }
         }
     }
 }
@@ -74,18 +74,14 @@ impl From<Listed> for PhfListed {
     ghost from_gives = { λ answer fields. fields ≡ listed_fields (report_list answer) };
 
     fn from(answer: Listed) -> PhfListed {
-        let tally = answer.tally;
-        match answer.charged {
-            Ok(charge) => PhfListed {
-                number: 0,
-                charge,
-                tally,
-            },
-            Err(refusal) => PhfListed {
-                number: refusal.into(),
-                charge: 0,
-                tally,
-            },
+        let (number, charge) = match answer.charged {
+            Ok(charge) => (0, charge),
+            Err(refusal) => (refusal.into(), 0),
+        };
+        PhfListed {
+            number,
+            charge,
+            tally: answer.tally,
         }
     }
 }
@@ -154,10 +150,10 @@ impl From<Result<bool, PairRefusal>> for PhfCompared {
                 number: 0,
                 same: same as u16,
             },
-            Err(refusal) => PhfCompared {
-                number: refusal.into(),
-                same: 0,
-            },
+            Err(refusal) => {
+                let number = refusal.into();
+                PhfCompared { number, same: 0 }
+            }
         }
     }
 }
@@ -168,10 +164,10 @@ impl From<Result<u16, Refusal>> for PhfConverted {
     fn from(answer: Result<u16, Refusal>) -> PhfConverted {
         match answer {
             Ok(length) => PhfConverted { number: 0, length },
-            Err(refusal) => PhfConverted {
-                number: refusal.into(),
-                length: 0,
-            },
+            Err(refusal) => {
+                let number = refusal.into();
+                PhfConverted { number, length: 0 }
+            }
         }
     }
 }
