@@ -1,13 +1,13 @@
 // The kept stretches of a family and, with the longest runs of dead peptides, the list of the reduced ranges.
-ghost use Rattle.std.specs.Prelude.{Bool, true, not, ◌&&◌, eqb, ◌≡◌, ◌+◌, ◌-◌, ◌<◌, ◌≤◌, length, get_or};
+ghost use Rattle.std.specs.Prelude.{Bool, true, not, ◌&&◌, eqb, ◌≡◌, ◌+◌, ◌-◌, ◌<◌, ◌≤◌, length, get_or, set};
 ghost use Rattle.reader.specs.Family.{family_of, region_count};
 ghost use Rattle.reader.specs.WellFormed.{ParentsBelow};
 ghost use Rattle.bounds.specs.Ranges.{Range};
 ghost use Rattle.bounds.specs.Selections.{selected};
-ghost use Rattle.reduction.specs.Private.Steps.{Parented, Stretched, Totalled, Listed};
-ghost use Rattle.reduction.specs.Private.Keeping.{WithStretches, same_ends, first_at, Weighed, WeighedBelow, TotalsBelow, kept_bound, KeptMarked, begins_run, RunTo, Gathered, RunsAhead, SomeGathered};
+ghost use Rattle.reduction.specs.Private.Steps.{Parented, Stretched, firsts_of, lasts_of, Totalled, Listed};
+ghost use Rattle.reduction.specs.Private.Keeping.{WithStretches, same_ends, first_at, Weighed, WeighedBelow, TotalsBelow, counted, kept_bound, KeptMarked, begins_run, RunTo, GatheredIn, RunsAhead, SomeGathered, Whole, SameArrays};
 
-use reader::bytes::smaller;
+use crate::stretch::Stretch;
 use reader::family::{Peptide, peptide_count, region_count, region_of};
 
 // Going outward from a region: the smallest z of its stretch, and the smallest z of the other stretches. Where there is
@@ -18,22 +18,90 @@ struct Weights {
     around: u16,
 }
 
+// The weights of each region.
+#[derive(Clone, Copy)]
+struct WeightsOf<'a> {
+    least: &'a [u16],
+    around: &'a [u16],
+}
+
+// The list of the reduced ranges, while it is written: the first peptide, the last one and the bound of each of the first
+// `count`.
+#[derive(Drop)]
+struct Ranges<'a> {
+    from: &'a mut [u16],
+    to: &'a mut [u16],
+    bounds: &'a mut [u16],
+    count: u16,
+}
+
 // The number at a place; 0 past the end.
 fn nth(numbers: &[u16], k: u16) -> u16
     ensures { result ≡ get_or numbers.now k 0 }
 {
-    let i = k as usize;
-    if i < numbers.len() { numbers[i] } else { 0 }
+    numbers.get(k as usize).copied().unwrap_or(0)
 }
 
-// Whether two regions have the same first and last live peptides.
-fn same_stretch(firsts: &[u16], lasts: &[u16], i: u16, k: u16) -> bool
-    ensures { result ≡ same_ends firsts.now lasts.now i k }
+// The stretch of a region; none past the end.
+fn stretch_at(stretches: &[Stretch], k: u16) -> Stretch
+    ensures first { result.first ≡ get_or (firsts_of stretches.now) k 0 }
+    ensures last { result.last ≡ get_or (lasts_of stretches.now) k 0 }
 {
-    if nth(firsts, i) != nth(firsts, k) {
-        return false;
+    match stretches.get(k as usize) {
+        Some(stretch) => *stretch,
+        None => Stretch { first: 0, last: 0 },
     }
-    nth(lasts, i) == nth(lasts, k)
+}
+
+// Whether two regions have the same stretch.
+#[tactic(auto, unfolding(crate::specs::Private::Keeping::same_ends))]
+fn same_stretch(stretches: &[Stretch], i: u16, k: u16) -> bool
+    ensures { result ≡ same_ends (firsts_of stretches.now) (lasts_of stretches.now) i k }
+{
+    stretch_at(stretches, i) == stretch_at(stretches, k)
+}
+
+// Whether there is a next region and it has the stretch of the k-th one.
+fn repeated(stretches: &[Stretch], next: Option<u16>, k: u16) -> bool
+    ensures { result ≡ not (eqb (counted next) 0) && same_ends (firsts_of stretches.now) (lasts_of stretches.now) (counted next - 1) k }
+{
+    match next {
+        Some(i) => same_stretch(stretches, i, k),
+        None => false,
+    }
+}
+
+impl WeightsOf<'_> {
+    // The weights of the k-th region.
+    fn at(self, k: u16) -> Weights
+        ensures least { result.least ≡ get_or self.entry.least.now k 0 }
+        ensures around { result.around ≡ get_or self.entry.around.now k 0 }
+    {
+        Weights {
+            least: nth(self.least, k),
+            around: nth(self.around, k),
+        }
+    }
+}
+
+impl Ranges<'_> {
+    // Writes one range more.
+    fn push(&mut self, from: u16, to: u16, bound: u16)
+        requires whole { Whole self.old }
+        requires few { self.old.count < 8191 }
+        ensures whole { Whole self.new }
+        ensures same_arrays { SameArrays self.old self.new }
+        ensures from { self.new.from.now ≡ set self.old.from.now self.old.count from }
+        ensures to { self.new.to.now ≡ set self.old.to.now self.old.count to }
+        ensures bounds { self.new.bounds.now ≡ set self.old.bounds.now self.old.count bound }
+        ensures count { self.new.count ≡ self.old.count + 1 }
+    {
+        let n = self.count as usize;
+        self.from[n] = from;
+        self.to[n] = to;
+        self.bounds[n] = bound;
+        self.count += 1;
+    }
 }
 
 // The weights of the k-th region, from those of its parent. What is around a region with a stretch has one too,
@@ -41,20 +109,17 @@ fn same_stretch(firsts: &[u16], lasts: &[u16], i: u16, k: u16) -> bool
 fn weigh_region(
     file: &[u8],
     parents: &[u16],
-    firsts: &[u16],
-    lasts: &[u16],
-    least: &[u16],
-    around: &[u16],
+    stretches: &[Stretch],
+    weights: WeightsOf,
     k: u16,
 ) -> Weights
-    requires with_stretches { WithStretches (family_of file.now) firsts.now lasts.now }
+    requires with_stretches { WithStretches (family_of file.now) (firsts_of stretches.now) (lasts_of stretches.now) }
     requires parents_below { ParentsBelow (family_of file.now) parents.now (region_count (family_of file.now)) }
-    requires weighed_below { WeighedBelow (family_of file.now) least.now around.now k }
+    requires weighed_below { WeighedBelow (family_of file.now) weights.least.now weights.around.now k }
     requires k_bound { k < region_count (family_of file.now) }
     ensures { 1 ≤ first_at (family_of file.now) k → Weighed (family_of file.now) k result.least result.around }
 {
-    let region = region_of(file, k);
-    let z = region.z;
+    let z = region_of(file, k).z;
     let number = nth(parents, k);
     if number == 0 {
         return Weights {
@@ -63,17 +128,17 @@ fn weigh_region(
         };
     }
     let parent = number - 1;
-    let parent_least = nth(least, parent);
-    let parent_around = nth(around, parent);
-    if same_stretch(firsts, lasts, parent, k) {
-        return Weights {
-            least: smaller(z, parent_least),
-            around: parent_around,
-        };
-    }
-    Weights {
-        least: z,
-        around: smaller(parent_least, parent_around),
+    let outer = weights.at(parent);
+    if same_stretch(stretches, parent, k) {
+        Weights {
+            least: z.min(outer.least),
+            around: outer.around,
+        }
+    } else {
+        Weights {
+            least: z,
+            around: outer.least.min(outer.around),
+        }
     }
 }
 
@@ -81,61 +146,43 @@ fn weigh_region(
 fn weigh(
     file: &[u8],
     parents: &[u16],
-    firsts: &[u16],
-    lasts: &[u16],
-    least: &mut [u16],
-    around: &mut [u16],
+    stretches: &[Stretch],
+    least: &mut [u16; 8191],
+    around: &mut [u16; 8191],
 )
-    requires with_stretches { WithStretches (family_of file.now) firsts.now lasts.now }
+    requires with_stretches { WithStretches (family_of file.now) (firsts_of stretches.now) (lasts_of stretches.now) }
     requires parents_below { ParentsBelow (family_of file.now) parents.now (region_count (family_of file.now)) }
-    requires file_in_bounds { region_count (family_of file.now) ≤ length least.old }
-    requires file_in_bounds_2 { region_count (family_of file.now) ≤ length around.old }
     ensures { WeighedBelow (family_of file.now) least.new around.new (region_count (family_of file.now)) }
 {
     let regions = region_count(file);
-    let mut k = 0;
-    while k < regions {
-        let weights = weigh_region(file, parents, firsts, lasts, least, around, k);
+    for k in 0..regions {
+        let weights = weigh_region(file, parents, stretches, WeightsOf { least, around }, k);
         least[k as usize] = weights.least;
         around[k as usize] = weights.around;
-        k += 1;
     }
 }
 
-// Whether there is a region of that number, from 1, with the stretch of the k-th one.
-fn repeats(firsts: &[u16], lasts: &[u16], number: u16, k: u16) -> bool
-    ensures { result ≡ not (eqb number 0) && same_ends firsts.now lasts.now (number - 1) k }
-{
-    if number == 0 {
-        return false;
-    }
-    same_stretch(firsts, lasts, number - 1, k)
-}
-
-// The z of the k-th region's stretch if it is kept and no later region has it, else 0. `next` is the number, from 1,
-// of the next region with a stretch, or 0. Of regions with the same stretch only the last, innermost one knows the room.
+// The z of the k-th region's stretch if it is kept and no later region has it, else 0. `next` is the next region with a
+// stretch. Of regions with the same stretch only the last, innermost one knows the room.
+#[tactic(auto, unfolding(crate::specs::Private::Keeping::kept_bound))]
 fn kept_bound(
     totals: &[u16],
-    firsts: &[u16],
-    lasts: &[u16],
-    least: &[u16],
-    around: &[u16],
-    next: u16,
+    stretches: &[Stretch],
+    weights: WeightsOf,
+    next: Option<u16>,
     k: u16,
 ) -> u16
-    ensures { result ≡ kept_bound firsts.now lasts.now totals.now least.now around.now next k }
+    ensures { result ≡ kept_bound (firsts_of stretches.now) (lasts_of stretches.now) totals.now weights.entry.least.now weights.entry.around.now (counted next) k }
 {
-    if nth(firsts, k) == 0 {
+    if stretch_at(stretches, k).first == 0 || repeated(stretches, next, k) {
         return 0;
     }
-    if repeats(firsts, lasts, next, k) {
-        return 0;
+    let z = nth(weights.least, k);
+    if z < nth(totals, k) && z < nth(weights.around, k) {
+        z
+    } else {
+        0
     }
-    let z = nth(least, k);
-    if nth(totals, k) <= z {
-        return 0;
-    }
-    if nth(around, k) <= z { 0 } else { z }
 }
 
 // Writes the z of each kept stretch at its innermost region, and 0 at every other region. From the last region to the
@@ -143,54 +190,41 @@ fn kept_bound(
 fn mark_kept(
     file: &[u8],
     totals: &[u16],
-    firsts: &[u16],
-    lasts: &[u16],
-    least: &[u16],
-    around: &[u16],
-    kept: &mut [u16],
+    stretches: &[Stretch],
+    weights: WeightsOf,
+    kept: &mut [u16; 8191],
 )
-    requires with_stretches { WithStretches (family_of file.now) firsts.now lasts.now }
+    requires with_stretches { WithStretches (family_of file.now) (firsts_of stretches.now) (lasts_of stretches.now) }
     requires totals_below { TotalsBelow (family_of file.now) totals.now }
-    requires weighed_below { WeighedBelow (family_of file.now) least.now around.now (region_count (family_of file.now)) }
-    requires file_in_bounds { region_count (family_of file.now) ≤ length kept.old }
+    requires weighed_below { WeighedBelow (family_of file.now) weights.least.now weights.around.now (region_count (family_of file.now)) }
     ensures { KeptMarked (family_of file.now) kept.new 0 }
 {
-    let mut next = 0;
-    let mut k = region_count(file);
-    while k != 0 {
-        k -= 1;
-        kept[k as usize] = kept_bound(totals, firsts, lasts, least, around, next, k);
-        if nth(firsts, k) != 0 {
-            next = k + 1;
+    let mut next = None;
+    let regions = region_count(file);
+    for k in (0..regions).rev() {
+        kept[k as usize] = kept_bound(totals, stretches, weights, next, k);
+        if stretch_at(stretches, k).first != 0 {
+            next = Some(k);
         }
     }
 }
 
 // Whether a peptide is live; none is at 0 or past the end.
+#[tactic(auto, using(crate::proofs::Basics::Selected::selected_none, crate::proofs::Basics::Selected::selected_at, crate::proofs::Basics::Selected::selected_past))]
 fn is_live(live: &[u8], peptide: Peptide) -> bool
     ensures { result ≡ selected live.now peptide.0 }
 {
-    let p = peptide.0;
-    if p == 0 {
-        return false;
-    }
-    let i = (p - 1) as usize;
-    if i < live.len() { live[i] == 1 } else { false }
+    let p = peptide.0 as usize;
+    0 < p && p <= live.len() && live[p - 1] == 1
 }
 
 // Whether a longest run of dead peptides begins at the peptide.
+#[tactic(auto, unfolding(crate::specs::Private::Keeping::begins_run))]
 fn begins_run(live: &[u8], peptide: Peptide) -> bool
     ensures { result ≡ begins_run (selected live.now) peptide.0 }
 {
-    if is_live(live, peptide) {
-        return false;
-    }
     let p = peptide.0;
-    if p <= 1 {
-        p == 1
-    } else {
-        is_live(live, Peptide(p - 1))
-    }
+    !is_live(live, peptide) && (p == 1 || is_live(live, Peptide(p.saturating_sub(1))))
 }
 
 // The last peptide of the run that begins at the first.
@@ -199,89 +233,56 @@ fn run_end(live: &[u8], first: Peptide, peptides: u16) -> Peptide
     requires first_value { begins_run (selected live.now) first.0 ≡ true }
     ensures { RunTo peptides (selected live.now) first.0 result.0 }
 {
-    let mut last = first.0;
-    while last < peptides {
-        let next = last + 1;
-        if is_live(live, Peptide(next)) {
+    for last in first.0..peptides {
+        if is_live(live, Peptide(last + 1)) {
             return Peptide(last);
         }
-        last = next;
     }
-    Peptide(last)
+    Peptide(peptides)
 }
 
-// Lists the runs that begin after the first peptide named, and up to the second, after the `count` ranges listed so far;
-// returns how many there are then. The promise holds for any choice of stretches listed so far, if these begin no later
-// than the first peptide named.
-fn append_runs(
-    file: &[u8],
-    live: &[u8],
-    after: Peptide,
-    upto: Peptide,
-    from: &mut [u16],
-    to: &mut [u16],
-    bounds: &mut [u16],
-    count: u16,
-) -> u16
-    requires runs_ahead { RunsAhead (family_of file.now) live.now (after.0 + 1) (upto.0 + 1) from.old to.old bounds.old }
-    requires some_gathered { SomeGathered (family_of file.now) (after.0 + 1) count from.old to.old bounds.old }
-    ensures { (t : Range → Bool) → Gathered (family_of file.now) t (after.0 + 1) count from.old to.old bounds.old → Gathered (family_of file.now) t (upto.0 + 1) result from.new to.new bounds.new }
+// Lists the runs that begin from one peptide on, before another. The promise holds for any choice of stretches listed so
+// far, if these begin before the first peptide named.
+fn append_runs(file: &[u8], live: &[u8], begin: u16, end: u16, ranges: &mut Ranges)
+    requires whole { Whole ranges.old }
+    requires runs_ahead { RunsAhead (family_of file.now) live.now begin end }
+    requires some_gathered { SomeGathered (family_of file.now) begin ranges.old }
+    ensures whole { Whole ranges.new }
+    ensures same_arrays { SameArrays ranges.old ranges.new }
+    ensures gathered { (t : Range → Bool) → GatheredIn (family_of file.now) t begin ranges.old → GatheredIn (family_of file.now) t end ranges.new }
 {
     let peptides = peptide_count(file);
-    let end = upto.0;
-    let mut n = count;
-    let mut p = after.0;
-    while p < end {
-        p += 1;
+    for p in begin..end {
         if begins_run(live, Peptide(p)) {
             let last = run_end(live, Peptide(p), peptides);
-            from[n as usize] = p;
-            to[n as usize] = last.0;
-            bounds[n as usize] = 0;
-            n += 1;
+            ranges.push(p, last.0, 0);
         }
     }
-    n
 }
 
 // Lists the kept stretches in file order, each after the runs that begin before it. A stretch begins live and a run dead,
 // so the runs up to the first peptide of a stretch all come before it.
-fn gather(
-    file: &[u8],
-    live: &[u8],
-    firsts: &[u16],
-    lasts: &[u16],
-    kept: &[u16],
-    from: &mut [u16],
-    to: &mut [u16],
-    bounds: &mut [u16],
-) -> u16
-    requires with_stretches { WithStretches (family_of file.now) firsts.now lasts.now }
+fn gather(file: &[u8], live: &[u8], stretches: &[Stretch], kept: &[u16], ranges: &mut Ranges)
+    requires with_stretches { WithStretches (family_of file.now) (firsts_of stretches.now) (lasts_of stretches.now) }
     requires kept_marked { KeptMarked (family_of file.now) kept.now 0 }
-    requires runs_ahead { RunsAhead (family_of file.now) live.now 1 ((family_of file.now).peptides + 1) from.old to.old bounds.old }
-    ensures { Listed file.now result from.new to.new bounds.new }
+    requires runs_ahead { RunsAhead (family_of file.now) live.now 1 ((family_of file.now).peptides + 1) }
+    requires whole { Whole ranges.old }
+    requires none_yet { ranges.old.count ≡ 0 }
+    ensures same_arrays { SameArrays ranges.old ranges.new }
+    ensures listed { Listed file.now ranges.new.count ranges.new.from.now ranges.new.to.now ranges.new.bounds.now }
 {
-    let peptides = peptide_count(file);
-    let regions = region_count(file);
-    let mut n = 0;
-    let mut passed = Peptide(0);
-    let mut k = 0;
-    while k < regions {
-        let here = k;
-        k += 1;
-        let z = nth(kept, here);
+    let mut begin = 1;
+    for k in 0..region_count(file) {
+        let z = nth(kept, k);
         if z != 0 {
-            let first = Peptide(nth(firsts, here));
-            let last = nth(lasts, here);
-            n = append_runs(file, live, passed, first, from, to, bounds, n);
-            from[n as usize] = first.0;
-            to[n as usize] = last;
-            bounds[n as usize] = z;
-            n += 1;
-            passed = first;
+            let stretch = stretch_at(stretches, k);
+            let after = stretch.first + 1;
+            append_runs(file, live, begin, after, ranges);
+            ranges.push(stretch.first, stretch.last, z);
+            begin = after;
         }
     }
-    append_runs(file, live, passed, Peptide(peptides), from, to, bounds, n)
+    append_runs(file, live, begin, peptide_count(file) + 1, ranges);
 }
 
 // The reduced ranges in file order: the first peptide, the last one and the bound of each; returns how many there are.
@@ -289,23 +290,30 @@ fn gather(
 // `to` hold the weights until the kept bounds are marked, and these are marked over the parents, which only the weights need.
 pub(crate) fn list_reduced(
     file: &[u8],
-    parents: &mut [u16],
+    parents: &mut [u16; 8191],
     live: &[u8],
-    firsts: &[u16],
-    lasts: &[u16],
-    from: &mut [u16],
-    to: &mut [u16],
-    bounds: &mut [u16],
+    stretches: &[Stretch],
+    from: &mut [u16; 8191],
+    to: &mut [u16; 8191],
+    bounds: &mut [u16; 8191],
 ) -> u16
     requires parented { Parented file.now parents.old }
     requires totalled { Totalled file.now bounds.old }
-    requires stretched { Stretched file.now live.now firsts.now lasts.now }
-    requires file_in_bounds { region_count (family_of file.now) ≤ length from.old }
-    requires file_in_bounds_2 { region_count (family_of file.now) ≤ length to.old }
-    requires file_in_bounds_3 { region_count (family_of file.now) ≤ length bounds.old }
+    requires stretched { Stretched file.now live.now (firsts_of stretches.now) (lasts_of stretches.now) }
     ensures { Listed file.now result from.new to.new bounds.new }
 {
-    weigh(file, parents, firsts, lasts, from, to);
-    mark_kept(file, bounds, firsts, lasts, from, to, parents);
-    gather(file, live, firsts, lasts, parents, from, to, bounds)
+    weigh(file, parents, stretches, from, to);
+    let weights = WeightsOf {
+        least: from,
+        around: to,
+    };
+    mark_kept(file, bounds, stretches, weights, parents);
+    let mut ranges = Ranges {
+        from,
+        to,
+        bounds,
+        count: 0,
+    };
+    gather(file, live, stretches, parents, &mut ranges);
+    ranges.count
 }

@@ -1,10 +1,10 @@
 -- The live peptides as a selection: m bytes, each 0 or 1, which the call for the inside totals takes.
-use Prim.Native.Nat.{ℕ, ◌-◌, ◌≤◌}
+use Prim.Native.Nat.{ℕ, ◌≤◌}
 use mathlib.Core.Bool.{false}
 use mathlib.Core.List.{List}
 use mathlib.Core.Path.{◌≡◌, ap, ◌∙◌}
 use native.Mathlib.Omega.{arith}
-use lib.ListN.{length, take, drop, length-append}
+use lib.ListN.{length, take, drop}
 use lib.Seq.{take_at}
 use Rattle.reader.specs.Family.{Family, family_of}
 use Rattle.reader.specs.Causes.{first_cause, Accepted}
@@ -29,11 +29,8 @@ live_selection F = set_selection F.peptides (live (ranges_of F))
 
 module _ (F : Family) (L : List ℕ) (begins : Begins (live_bytes F) L) where
   -- the selection is the first m bytes of the list
-  pub live_room : F.peptides ≤ length L
-  live_room = omega (arith, live_length F, ap length begins.1, length-append (live_bytes F) begins.0)
-
-  pub live_part : (m : ℕ) → m ≡ F.peptides → take (m - 0) L ≡ live_bytes F
-  live_part m e = ap (take (m - 0)) begins.1 ∙ take_at (live_bytes F) begins.0 (m - 0) (omega (arith, live_length F))
+  pub live_part : (m : ℕ) → m ≡ F.peptides → take m L ≡ live_bytes F
+  live_part m e = ap (take m) begins.1 ∙ take_at (live_bytes F) begins.0 m (omega (arith, live_length F))
 
 module _ (s : List ℕ) (accepted : Accepted s) (old : List ℕ) (room : 8191 ≤ length old) where
   none_holds : first_cause (selection_causes s (live_bytes (family_of s)) old) ≡ 0

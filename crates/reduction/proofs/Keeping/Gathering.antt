@@ -18,9 +18,10 @@ use Rattle.bounds.specs.Ranges.{Range, Peptides, ranges_of, those, In}
 use Rattle.bounds.specs.Selections.{selected}
 use Rattle.bounds.proofs.Basics.Members.{test, clash, refuted, and_l, and_r, and_both, or_l, or_r, or_either, both_ways, in_append, in_those, those_in, those_same, le_or_lt}
 use Rattle.bounds.proofs.Theory.Family.{ranges_length}
+use Rattle.reduction.specs.declared.keep.Ranges.{Ranges}
 use Rattle.reduction.specs.Reduction.{piece, live}
 use Rattle.reduction.specs.Private.Steps.{Begins, live_bytes, reduced_ranges, Listed}
-use Rattle.reduction.specs.Private.Keeping.{first_at, last_at, SameStretch, Keeps, KeptMarked, begins_run, RunTo, of_first, with_runs, Gathered, Passed}
+use Rattle.reduction.specs.Private.Keeping.{first_at, last_at, SameStretch, Keeps, KeptMarked, begins_run, RunTo, of_first, with_runs, Gathered, Passed, SameArrays}
 use Rattle.reduction.proofs.Basics.Unless.{lt_unless}
 use Rattle.reduction.proofs.Basics.Grid.{Precedes, FileOrder, append_l, append_r, those_ordered, ordered_same}
 use Rattle.reduction.proofs.Theory.Stretches.{stretches_facts}
@@ -31,6 +32,11 @@ use Rattle.reduction.proofs.Theory.Smallest.{reduced_count}
 use Rattle.reduction.proofs.Keeping.HandedOn.{lives_same}
 use Rattle.reduction.proofs.Keeping.StretchPlaces.{stretch_of, bound_some, stretch_order}
 use Rattle.reduction.proofs.Keeping.Marking.{keeps_reduced, reduced_kept}
+
+-- Arrays that stay the same.
+
+pub same_trans : {a b c : Ranges} → SameArrays a b → SameArrays b c → SameArrays a c
+same_trans h i = record { from = i.from ∙ h.from; to = i.to ∙ h.to; bounds = i.bounds ∙ h.bounds }
 
 -- Lists.
 
@@ -240,8 +246,11 @@ begins_run_lem X p e b r =
 
 -- as the live bytes say it
 module _ (F : Family) (X : List ℕ) (b : Begins (live_bytes F) X) (p : ℕ) where
-  pub run_here : (e : ℕ) → 1 ≤ p → begins_run (selected X) p ≡ true → RunTo F.peptides (selected X) p e → DeadRun F.peptides (live (ranges_of F)) p e
+  run_here : (e : ℕ) → 1 ≤ p → begins_run (selected X) p ≡ true → RunTo F.peptides (selected X) p e → DeadRun F.peptides (live (ranges_of F)) p e
   run_here e h t r = run_same (selected X) (live (ranges_of F)) (lives_same F X b) (run_begins (selected X) p e h t r)
+
+  pub run_at : (m e : ℕ) → m ≡ F.peptides → 1 ≤ p → begins_run (selected X) p ≡ true → RunTo m (selected X) p e → DeadRun F.peptides (live (ranges_of F)) p e
+  run_at m e i h t r = run_here e h t (subst (λ (n : ℕ). RunTo n (selected X) p e) i r)
 
   pub no_run_here : begins_run (selected X) p ≡ false → (e : ℕ) → DeadRun F.peptides (live (ranges_of F)) p e → ⊥
   no_run_here t e r = begins_run_lem (selected X) p e t (run_same (live (ranges_of F)) (selected X) (λ q l u. sym (lives_same F X b q l u)) r)

@@ -1,48 +1,26 @@
 -- The pass over the regions that finds the live peptides: how far the dead ones reach.
-use Prim.Native.Nat.{ℕ, ◌+◌, ◌-◌, ◌<◌, ◌≤◌}
-use native.Mathlib.Nat.{eq-or-lt_of_le}
+use Prim.Native.Nat.{ℕ, ◌+◌, ◌-◌, ◌<◌, ◌≤◌, max}
 use native.Mathlib.Omega.{arith}
-use mathlib.Core.Bool.{false, cond}
-use mathlib.Core.List.{List}
-use mathlib.Core.Logic.{⊎_elim}
-use mathlib.Core.Path.{◌≡◌, refl, sym, subst, ◌∙◌}
-use lib.ListN.{length, set}
-use lib.Seq.{get_or-set_same, get_or-set_other}
-use lib.Dec.{ltb}
-use borrow.Author.Tests.{ltb-true, ltb-false}
+use mathlib.Core.Bool.{false}
+use mathlib.Core.List.{List, ◌++◌}
+use mathlib.Core.Logic.{◌⊎◌, inl, inr, ⊎_elim}
+use mathlib.Core.Path.{◌≡◌, refl, sym, ap, subst, ◌∙◌}
+use lib.ListN.{length, get_or}
+use Rattle.std.proofs.Common.{replicate, take}
+use Rattle.std.proofs.lemmas.List.{length-take-le, length-replicate, get_or-take, get_or-drop, get_or-replicate, get_or-append_right}
+use Rattle.std.proofs.lemmas.Slice.{take-put_mid, drop-put_mid, take-put_mid_below}
+use borrow.Rule.Slice.PartMut.{put_mid}
 use Rattle.reader.specs.Family.{Family, region_count, region}
 use Rattle.reader.specs.WellFormed.{WellFormed}
 use Rattle.reader.proofs.Below.{below_next}
 use Rattle.bounds.specs.Ranges.{range_of, ranges_of, range_at}
-use Rattle.bounds.proofs.Basics.Members.{test, le_or_lt}
+use Rattle.bounds.proofs.Basics.Members.{test, clash, le_or_lt}
 use Rattle.bounds.proofs.Basics.Nesting.{has_facts, has_holds}
 use Rattle.reader.proofs.Walk.{up_to_mono}
-use Rattle.bounds.proofs.Theory.Family.{range_in, range_z, leaf_most, of_region}
+use Rattle.bounds.proofs.Theory.Family.{range_in, leaf_most, of_region}
 use Rattle.reduction.specs.Reduction.{live}
-use Rattle.reduction.specs.Private.Passes.{LiveMarked, LiveUpTo, Reached}
+use Rattle.reduction.specs.Private.Passes.{LiveUpTo}
 use Rattle.reduction.proofs.Theory.Live.{dead_facts, dead_holds}
-
--- The byte of one peptide more is written.
-
-pub none_marked : (L : List ℕ) (from until : ℕ) → LiveMarked L L from from until
-none_marked L from until = record { old = λ p h. refl; new = λ p h l. absurd (omega arith) }
-
-pub live_marked_more :
-    (L M : List ℕ) (from to until v : ℕ) → from ≤ to → to < length M → v ≡ cond (ltb to until) 0 1 → LiveMarked L M from to until
-    → LiveMarked L (set M to v) from (to + 1) until
-live_marked_more L M from to until v order room e k =
-    record {
-      old = λ p h. get_or-set_other M to p v 0 (λ d. omega arith) ∙ k.old p h;
-      new =
-          λ p h l.
-          ⊎_elim
-          (λ d. rw d (get_or-set_same M to v 0 room ∙ e))
-          (λ b. get_or-set_other M to p v 0 (λ d. omega arith) ∙ k.new p h b)
-          (below_next l);
-    }
-
-pub marked_less : (L M : List ℕ) (from to until n : ℕ) → n ≤ to → LiveMarked L M from to until → LiveMarked L M from n until
-marked_less L M from to until n h k = record { old = k.old; new = λ p a l. k.new p a (omega arith) }
 
 -- The low and high ends of the ranges, in file order.
 
@@ -67,92 +45,139 @@ pub record DeadTo (F : Family) (k u : ℕ) : Type 0 where
   pub zero : (range_at F number).z ≡ 0
   pub high : u ≡ (range_at F number).high
 
--- Of the first k regions, which begin after `settled` peptides or fewer, those with z = 0 reach up to peptide u.
--- The other regions begin after no fewer, and the bytes of the settled peptides are right.
-pub record Swept (F : Family) (k settled u : ℕ) (M : List ℕ) : Type 0 where
-  pub few : settled ≤ F.peptides
-  pub before : (i : ℕ) → i < k → (range_at F i).low ≤ settled
-  pub others : (i : ℕ) → k ≤ i → i < region_count F → settled ≤ (range_at F i).low
+-- and one that has peptide p + 1
+pub record DeadBy (F : Family) (k p : ℕ) : Type 0 where
+  pub number : ℕ
+  pub small : number < k
+  pub zero : (range_at F number).z ≡ 0
+  pub above : (range_at F number).low ≤ p
+  pub upto : p < (range_at F number).high
+
+-- Of the first k regions, those with z = 0 reach up to peptide u; what is in them is marked dead, and nothing else is.
+pub record Swept (F : Family) (k u : ℕ) (M : List ℕ) : Type 0 where
   pub most : (i : ℕ) → i < k → (range_at F i).z ≡ 0 → (range_at F i).high ≤ u
   pub least : 1 ≤ u → DeadTo F k u
-  pub right : LiveUpTo F settled M
+  pub dead : (p : ℕ) → DeadBy F k p → get_or M p 0 ≡ 0
+  pub others : (p : ℕ) → p < F.peptides → (get_or M p 0 ≡ 1) ⊎ DeadBy F k p
 
-pub none_swept : (F : Family) (M : List ℕ) → Swept F 0 0 0 M
-none_swept F M =
+pub none_swept : (F : Family) (M : List ℕ) → ((p : ℕ) → p < F.peptides → get_or M p 0 ≡ 1) → Swept F 0 0 M
+none_swept F M ones =
     record {
-      few = omega arith;
-      before = λ i l. absurd (omega arith);
-      others = λ i h l. omega arith;
       most = λ i l. absurd (omega arith);
       least = λ h. absurd (omega arith);
-      right = λ p l. absurd (omega arith);
+      dead = λ p d. absurd (omega (arith, d.small));
+      others = λ p l. inl (ones p l);
     }
 
-module _ (F : Family) (w : WellFormed F) where
-  -- a peptide that is not settled, before the ones of the other regions, is dead exactly if it is reached
-  pub dead_reached :
-      (k settled u p : ℕ) (M : List ℕ) → k ≤ region_count F → Swept F k settled u M → settled ≤ p → ((i : ℕ) → k ≤ i → i < region_count F → p < (range_at F i).low)
-      → ◌≡◌ {A = ℕ} (cond (ltb p u) 0 1) (cond (live (ranges_of F) (p + 1)) 1 0)
-  dead_reached k settled u p M few s from to =
-      ⊎_elim
-      (λ t.
-      let d = s.least (omega (arith, ltb-true p u t)) in
-      rw (t, dead_holds {R = ranges_of F} {p = p + 1} (record { by = range_at F d.number; member = range_in F d.number (omega (arith, d.small)); zero = d.zero; holds = has_holds (record { above = omega (arith, s.before d.number d.small); upto = omega (arith, ltb-true p u t, d.high) }) })))
-      (λ f. rw f (sym (⊎_elim (λ l. rw l) (λ l. absurd (unreached f l)) (test (live (ranges_of F) (p + 1))))))
-      (test (ltb p u))
-    where
-      unreached : ltb p u ≡ false → live (ranges_of F) (p + 1) ≡ false → ⊥
-      unreached f l =
-          let d = dead_facts (ranges_of F) (p + 1) l in
-          let n = of_region F d.by d.member in
-          let h = has_facts (range_at F n.at) (p + 1) (rw n.is at d.holds) in
-          let z : (range_at F n.at).z ≡ 0 = rw n.is at d.zero in
-          ⊎_elim
-          (λ a. omega (arith, to n.at a n.few, h.above))
-          (λ b. omega (arith, s.most n.at b z, h.upto, ltb-false p u f))
-          (le_or_lt k n.at)
+-- N is M with the bytes from one place to another made 0
+pub record Cleared (M N : List ℕ) (from to : ℕ) : Type 0 where
+  pub before : (p : ℕ) → p < from → get_or N p 0 ≡ get_or M p 0
+  pub cleared : (p : ℕ) → from ≤ p → p < to → get_or N p 0 ≡ 0
+  pub after : (p : ℕ) → to ≤ p → get_or N p 0 ≡ get_or M p 0
 
-  -- the bytes up to a peptide before those of the other regions
-  settle :
-      (k settled u to : ℕ) (M N : List ℕ) → k ≤ region_count F → Swept F k settled u M → ((i : ℕ) → k ≤ i → i < region_count F → to ≤ (range_at F i).low)
-      → LiveMarked M N settled to u → LiveUpTo F to N
-  settle k settled u to M N few s next marked p l =
-      ⊎_elim
-      (λ a. marked.new p a l ∙ dead_reached k settled u p M few s a (λ i h j. omega (arith, next i h j)))
-      (λ b. marked.old p b ∙ s.right p b)
-      (le_or_lt settled p)
+pub cleared_by_fill : (M Z : List ℕ) (a b : ℕ) → a ≤ b → b ≤ length M → Z ≡ replicate (b - a) 0 → Cleared M (put_mid a (b - a) M Z) a b
+cleared_by_fill M Z a b order room e =
+    let n : length (take a M) ≡ a = length-take-le a M (omega arith) in
+    let k : length Z ≡ b - a = rw e (length-replicate (b - a) 0) in
+    let head : take b (put_mid a (b - a) M Z) ≡ take a M ++ Z = take-put_mid a (b - a) M Z b (omega arith) (omega arith) in
+    record {
+      before =
+          λ p l.
+          sym (get_or-take a (put_mid a (b - a) M Z) p 0 l)
+          ∙ ap (λ (L : List ℕ). get_or L p 0) (take-put_mid_below a (b - a) M Z a (omega arith) (omega arith))
+          ∙ get_or-take a M p 0 l;
+      cleared =
+          λ p h l.
+          sym (get_or-take b (put_mid a (b - a) M Z) p 0 l)
+          ∙ ap (λ (L : List ℕ). get_or L p 0) head
+          ∙ get_or-append_right (take a M) Z a p 0 n h
+          ∙ rw e (get_or-replicate (b - a) (p - a) 0 0 (omega arith));
+      after = λ p h. subst (λ (i : ℕ). get_or (put_mid a (b - a) M Z) i 0 ≡ get_or M i 0) (omega arith) (rest (p - b));
+    }
+  where
+    rest : (i : ℕ) → get_or (put_mid a (b - a) M Z) (b + i) 0 ≡ get_or M (b + i) 0
+    rest i =
+        sym (get_or-drop b (put_mid a (b - a) M Z) i 0)
+        ∙ ap (λ (L : List ℕ). get_or L i 0) (drop-put_mid a (b - a) M Z b (omega arith) (omega arith) (rw e (length-replicate (b - a) 0)))
+        ∙ get_or-drop b M i 0
 
-  -- the k-th region
-  pub swept_more :
-      (k settled u low z high v : ℕ) (M N : List ℕ) → k < region_count F → low ≡ (range_at F k).low → high ≡ (range_at F k).high → z ≡ (region F k).z
-      → Reached z high u v
-      → Swept F k settled u M → LiveMarked M N settled low u → Swept F (k + 1) low v N
-  swept_more k settled u low z high v M N h el eh ez ev s marked =
+module _ (F : Family) (w : WellFormed F) (k u : ℕ) (M : List ℕ) (h : k < region_count F) (s : Swept F k u M) where
+  one_more : (p : ℕ) → DeadBy F k p → DeadBy F (k + 1) p
+  one_more p d = record { number = d.number; small = omega (arith, d.small); zero = d.zero; above = d.above; upto = d.upto }
+
+  -- the k-th region begins no earlier than the one that reaches farthest
+  reached : (p : ℕ) → (range_at F k).low ≤ p → p < u → get_or M p 0 ≡ 0
+  reached p a l =
+      let d = s.least (omega arith) in
+      s.dead p (record { number = d.number; small = d.small; zero = d.zero; above = omega (arith, low_rises F w d.number k d.small h); upto = omega (arith, d.high) })
+
+  -- of the regions with one more, the k-th one has the peptide, or an earlier one has it
+  by_last : (p : ℕ) → DeadBy F (k + 1) p → ((((range_at F k).z ≡ 0) × ((range_at F k).low ≤ p)) × (p < (range_at F k).high)) ⊎ DeadBy F k p
+  by_last p d =
+      ⊎_elim
+      (λ e. inl ((rw (← e) d.zero, rw (← e) d.above), rw (← e) d.upto))
+      (λ b. inr (record { number = d.number; small = b; zero = d.zero; above = d.above; upto = d.upto }))
+      (below_next d.small)
+
+  -- the k-th region is live, or reaches no farther
+  pub swept_same : ((range_at F k).z ≡ 0 → (range_at F k).high ≤ u) → Swept F (k + 1) u M
+  swept_same few =
       record {
-        few = omega (arith, low_high F w k h, high_small F w k h);
-        before = λ i l. ⊎_elim (λ e. rw e (omega arith)) (λ b. omega (arith, low_rises F w i k b h)) (below_next l);
-        others = λ i l j. omega (arith, low_rises F w k i (omega arith) j);
-        most = λ i l zero. ⊎_elim (λ e. rw e (omega (arith, ev.covers (z_k ∙ rw e at zero)))) (λ b. omega (arith, s.most i b zero, ev.grows)) (below_next l);
-        least = reached;
-        right = settle k settled u low M N (omega arith) s (λ i a j. ⊎_elim (λ e. rw (← e) (omega arith)) (λ b. omega (arith, low_rises F w k i b j)) (eq-or-lt_of_le a)) marked;
+        most = λ i l zero. ⊎_elim (λ e. rw e (few (rw e at zero))) (λ b. s.most i b zero) (below_next l);
+        least = λ some. let d = s.least some in record { number = d.number; small = omega (arith, d.small); zero = d.zero; high = d.high };
+        dead = λ p d. ⊎_elim (λ n. reached p n.0.1 (omega (arith, few n.0.0, n.1))) (λ b. s.dead p b) (by_last p d);
+        others = λ p l. ⊎_elim (λ e. inl e) (λ d. inr (one_more p d)) (s.others p l);
+      }
+
+  -- it is dead, and reaches farther
+  pub swept_more :
+      (N : List ℕ) (from : ℕ) → (range_at F k).z ≡ 0 → u < (range_at F k).high → from ≡ max (range_at F k).low u → Cleared M N from (range_at F k).high
+      → Swept F (k + 1) (range_at F k).high N
+  swept_more N from zero farther e c =
+      record {
+        most = λ i l none. ⊎_elim (λ a. rw a (omega arith)) (λ b. omega (arith, s.most i b none)) (below_next l);
+        least = λ some. record { number = k; small = omega arith; zero = zero; high = refl };
+        dead = λ p d. ⊎_elim (λ n. here p n.0.1 n.1) (λ b. kept p (s.dead p b)) (by_last p d);
+        others = others;
       }
     where
-      z_k : z ≡ (range_at F k).z
-      z_k = ez ∙ sym (range_z F k)
-
-      earlier : DeadTo F k u → DeadTo F (k + 1) u
-      earlier d = record { number = d.number; small = omega (arith, d.small); zero = d.zero; high = d.high }
-
-      reached : 1 ≤ v → DeadTo F (k + 1) v
-      reached some =
+      kept : (p : ℕ) → get_or M p 0 ≡ 0 → get_or N p 0 ≡ 0
+      kept p o =
           ⊎_elim
-          (λ e. subst (DeadTo F (k + 1)) (sym e) (earlier (s.least (omega arith))))
-          (λ e. record { number = k; small = omega arith; zero = sym z_k ∙ e.0; high = e.1 ∙ eh })
-          ev.is
+          (λ a. ⊎_elim (λ b. c.after p b ∙ o) (λ b. c.cleared p a b) (le_or_lt (range_at F k).high p))
+          (λ b. c.before p b ∙ o)
+          (le_or_lt from p)
 
-  -- all regions
-  pub all_swept :
-      (k settled u m : ℕ) (M N : List ℕ) → k ≡ region_count F → m ≡ F.peptides → Swept F k settled u M → LiveMarked M N settled m u
-      → LiveUpTo F F.peptides N
-  all_swept k settled u m M N all e s marked p l =
-      settle k settled u m M N (omega arith) s (λ i h j. absurd (omega arith)) marked p (omega arith)
+      here : (p : ℕ) → (range_at F k).low ≤ p → p < (range_at F k).high → get_or N p 0 ≡ 0
+      here p a l = ⊎_elim (λ b. c.cleared p b l) (λ b. c.before p b ∙ reached p a (omega arith)) (le_or_lt from p)
+
+      others : (p : ℕ) → p < F.peptides → (get_or N p 0 ≡ 1) ⊎ DeadBy F (k + 1) p
+      others p l =
+          ⊎_elim
+          (λ a.
+          ⊎_elim
+          (λ b. ⊎_elim (λ o. inl (c.after p b ∙ o)) (λ d. inr (one_more p d)) (s.others p l))
+          (λ b. inr (record { number = k; small = omega arith; zero = zero; above = omega arith; upto = b }))
+          (le_or_lt (range_at F k).high p))
+          (λ b. ⊎_elim (λ o. inl (c.before p b ∙ o)) (λ d. inr (one_more p d)) (s.others p l))
+          (le_or_lt from p)
+
+-- all regions
+pub all_swept : (F : Family) (k u : ℕ) (M : List ℕ) → k ≡ region_count F → Swept F k u M → LiveUpTo F F.peptides M
+all_swept F k u M all s p l =
+    ⊎_elim
+    (λ t. rw t (⊎_elim (λ e. e) (λ d. absurd (clash t (dead d))) (s.others p l)))
+    (λ f. rw f (s.dead p (by f)))
+    (test (live (ranges_of F) (p + 1)))
+  where
+    dead : DeadBy F k p → live (ranges_of F) (p + 1) ≡ false
+    dead d =
+        dead_holds {R = ranges_of F} {p = p + 1}
+        (record { by = range_at F d.number; member = range_in F d.number (omega (arith, d.small)); zero = d.zero; holds = has_holds (record { above = omega (arith, d.above); upto = omega (arith, d.upto) }) })
+
+    by : live (ranges_of F) (p + 1) ≡ false → DeadBy F k p
+    by f =
+        let d = dead_facts (ranges_of F) (p + 1) f in
+        let n = of_region F d.by d.member in
+        let h = has_facts (range_at F n.at) (p + 1) (rw n.is at d.holds) in
+        record { number = n.at; small = omega (arith, n.few); zero = rw n.is at d.zero; above = omega (arith, h.above); upto = omega (arith, h.upto) }

@@ -11,7 +11,7 @@ use mathlib.Core.Path.{◌≡◌, refl, sym, ap, subst, ◌∙◌}
 use lib.ListN.{length, get_or, set}
 use lib.Seq.{get_or-set_same, get_or-set_other}
 use lib.Dec.{eqb, leb, ltb}
-use borrow.Author.Tests.{eqb-true, eqb-false, leb-true, leb-false, ltb-true, ltb-false, lt-ltb, le-leb}
+use borrow.Author.Tests.{eq-eqb, ne_eqb, eqb-true, eqb-false, leb-true, leb-false, ltb-true, ltb-false, lt-ltb, le-leb}
 use Rattle.reader.specs.Family.{Family, region_count, region}
 use Rattle.reader.specs.WellFormed.{WellFormed}
 use Rattle.bounds.specs.Ranges.{Range, Peptides, ranges_of, range_at}
@@ -26,6 +26,17 @@ use Rattle.reduction.proofs.Basics.Selected.{selected_at}
 use Rattle.reduction.proofs.Basics.FirstLast.{first_of_small, first_of_member, first_of_is, last_of_small, last_of_member, last_of_at_least, last_of_is}
 use Rattle.reduction.proofs.Theory.Stretches.{live_in, in_live}
 use Rattle.reduction.proofs.Stretching.DeadPeptides.{high_small}
+
+-- Whether the next peptide is selected, from its byte.
+
+byte : (M : List ℕ) (p : ℕ) → selected M (p + 1) ≡ eqb (get_or M p 0) 1
+byte M p = selected_at M (p + 1) (omega arith) ∙ ap (λ (i : ℕ). eqb (get_or M i 0) 1) (omega arith)
+
+pub live_next : (M : List ℕ) (p a : ℕ) → get_or M p 0 ≡ 1 → cond (selected M (p + 1)) (p + 1) a ≡ p + 1
+live_next M p a e = rw (byte M p ∙ eq-eqb (get_or M p 0) 1 e)
+
+pub dead_next : (M : List ℕ) (p a : ℕ) → (get_or M p 0 ≡ 1 → ⊥) → cond (selected M (p + 1)) (p + 1) a ≡ a
+dead_next M p a ne = rw (byte M p ∙ ne_eqb (get_or M p 0) 1 ne)
 
 -- The first one from each number on.
 
@@ -57,26 +68,31 @@ next_steps m X p a some small n = go (X p) refl
           least = λ q l h t. ⊎_elim (λ d. absurd (clash t (rw (← d) e))) (λ d. n.least q (omega arith) h t) (eq-or-lt_of_le l);
         }
 
-pub nearing_steps :
-    (m : ℕ) (X : Peptides) (p a v : ℕ) (A : List ℕ) → 1 ≤ p → p < length A → v ≡ cond (X p) p a → Nearing m X p a A
-    → Nearing m X (p - 1) v (set A p v)
-nearing_steps m X p a v A some room e n =
+nearing_step :
+    (m : ℕ) (X : Peptides) (p a v : ℕ) (A : List ℕ) → p + 1 < length A → v ≡ cond (X (p + 1)) (p + 1) a → Nearing m X (p + 1) a A
+    → Nearing m X p v (set A (p + 1) v)
+nearing_step m X p a v A room e n =
     record {
       small = omega (arith, n.small);
-      next = subst (λ (k : ℕ). Next m X k v) (omega arith) here;
+      next = here;
       all =
           λ q l h.
           ⊎_elim
-          (λ d. rw (← d, get_or-set_same A p v 0 room) here)
-          (λ d. rw (get_or-set_other A p q v 0 (λ c. omega arith)) (n.all q d h))
-          (eq-or-lt_of_le (up_from p q l));
+          (λ d. rw (← d, get_or-set_same A (p + 1) v 0 room) here)
+          (λ d. rw (get_or-set_other A (p + 1) q v 0 (λ c. omega arith)) (n.all q d h))
+          (eq-or-lt_of_le (up_from q l));
     }
   where
-    here : Next m X p v
-    here = rw e (next_steps m X p a some n.small n.next)
+    here : Next m X (p + 1) v
+    here = rw e (next_steps m X (p + 1) a (omega arith) n.small n.next)
 
-    up_from : (p q : ℕ) → p - 1 < q → p ≤ q
-    up_from p q l = omega arith
+    up_from : (q : ℕ) → p < q → p + 1 ≤ q
+    up_from q l = omega arith
+
+pub nearing_steps :
+    (m : ℕ) (X : Peptides) (p q a v : ℕ) (A : List ℕ) → q ≡ p + 1 → p + 1 < length A → v ≡ cond (X (p + 1)) (p + 1) a → Nearing m X q a A
+    → Nearing m X p v (set A (p + 1) v)
+nearing_steps m X p q a v A next room e n = nearing_step m X p a v A room e (subst (λ (k : ℕ). Nearing m X k a A) next n)
 
 pub nearing_ends : {m p a : ℕ} {X : Peptides} {A : List ℕ} → p ≡ 0 → Nearing m X p a A → Nexts m X A
 nearing_ends e n q l h = n.all q (omega arith) h

@@ -1,5 +1,5 @@
 -- The leaf ends marked in a list of bytes, their number, the leaf lengths between them and the regions' numbers, one step at a time.
-use Prim.Native.Nat.{ℕ, zero, suc, ◌+◌, ◌*◌, ◌-◌, ◌<◌}
+use Prim.Native.Nat.{ℕ, zero, suc, ◌+◌, ◌*◌, ◌-◌, ◌≤◌, ◌<◌}
 use mathlib.Core.Bool.{Bool, true, false, cond, ◌||◌}
 use mathlib.Core.List.{List, [], ◌∷◌, ◌++◌, append-nil}
 use mathlib.Core.Logic.{⊎_elim}
@@ -85,36 +85,37 @@ count_all X m r e = omega arith
 
 -- Leaf lengths.
 
-module _ (X : Peptides) (p : ℕ) where
-  -- the numbers up to p + 1, where a leaf ends there
-  pub record LeafEnds : Type 0 where
-    pub lengths : leaf_lengths (p + 1) X ≡ leaf_lengths p X ++ ((p + 1 - last_of p X) ∷ [])
-    pub count : card (p + 1) X ≡ card p X + 1
-    pub last : last_of (p + 1) X ≡ p + 1
+module _ (X : Peptides) where
+  -- the numbers up to p, where a leaf ends there
+  pub record LeafEnds (p : ℕ) : Type 0 where
+    pub lengths : leaf_lengths p X ≡ leaf_lengths (p - 1) X ++ ((p - last_of (p - 1) X) ∷ [])
+    pub count : card p X ≡ card (p - 1) X + 1
+    pub last : last_of p X ≡ p
 
-  pub leaf_ends : X (p + 1) ≡ true → LeafEnds
+  pub leaf_ends : (p : ℕ) → 1 ≤ p → X p ≡ true → LeafEnds p
   unfolding leaf_lengths rising card last_of
-  leaf_ends t =
+  leaf_ends zero h t = absurd (omega arith)
+  leaf_ends (suc p) h t =
       let down : suc p - 1 ≡ p = omega arith in
-      let here : X (suc p) ≡ true = rw (add-one p) at t in
-      record { lengths = rw (add-one p, here, down); count = rw (add-one p, here); last = rw (add-one p, here) }
+      record { lengths = rw (t, down); count = rw (t, down); last = rw t }
 
   -- and where none does
-  pub record LeafGoesOn : Type 0 where
-    pub lengths : leaf_lengths (p + 1) X ≡ leaf_lengths p X
-    pub count : card (p + 1) X ≡ card p X
-    pub last : last_of (p + 1) X ≡ last_of p X
+  pub record LeafGoesOn (p : ℕ) : Type 0 where
+    pub lengths : leaf_lengths p X ≡ leaf_lengths (p - 1) X
+    pub count : card p X ≡ card (p - 1) X
+    pub last : last_of p X ≡ last_of (p - 1) X
 
-  pub leaf_goes_on : X (p + 1) ≡ false → LeafGoesOn
+  pub leaf_goes_on : (p : ℕ) → 1 ≤ p → X p ≡ false → LeafGoesOn p
   unfolding leaf_lengths rising card last_of
-  leaf_goes_on t =
-      let here : X (suc p) ≡ false = rw (add-one p) at t in
-      record { lengths = rw (add-one p, here) (append-nil (rising p _)); count = rw (add-one p, here) (omega arith); last = rw (add-one p, here) }
+  leaf_goes_on zero h t = absurd (omega arith)
+  leaf_goes_on (suc p) h t =
+      let down : suc p - 1 ≡ p = omega arith in
+      record { lengths = rw (t, down) (append-nil (rising p _)); count = rw (t, down) (omega arith); last = rw (t, down) }
 
-  pub lengths_more : (out : List ℕ) → LeafEnds
-      → with_numbers (with_numbers out 16 (leaf_lengths p X)) (16 + 2 * card p X) ((p + 1 - last_of p X) ∷ []) ≡ with_numbers out 16 (leaf_lengths (p + 1) X)
-  lengths_more out e =
-      numbers_join out 16 (leaf_lengths p X) ((p + 1 - last_of p X) ∷ []) (16 + 2 * card p X) (omega (arith, leaves_count X p))
+  pub lengths_more : (p : ℕ) (out : List ℕ) → LeafEnds p
+      → with_numbers (with_numbers out 16 (leaf_lengths (p - 1) X)) (16 + 2 * card (p - 1) X) ((p - last_of (p - 1) X) ∷ []) ≡ with_numbers out 16 (leaf_lengths p X)
+  lengths_more p out e =
+      numbers_join out 16 (leaf_lengths (p - 1) X) ((p - last_of (p - 1) X) ∷ []) (16 + 2 * card (p - 1) X) (omega (arith, leaves_count X (p - 1)))
       ∙ ap (with_numbers out 16) (sym e.lengths)
 
 pub lengths_none : (out : List ℕ) (X : Peptides) → with_numbers out 16 (leaf_lengths 0 X) ≡ out

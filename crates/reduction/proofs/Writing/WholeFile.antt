@@ -1,7 +1,7 @@
 -- The numbers written from the list of the reduced ranges make the reduced file.
 use Prim.Native.Nat.{ℕ, zero, suc, ◌+◌, ◌*◌, ◌-◌, ◌<◌, ◌≤◌}
 use mathlib.Core.Bool.{Bool, ◌||◌}
-use mathlib.Core.List.{List, [], ◌∷◌, ◌++◌, map, append_assoc}
+use mathlib.Core.List.{List, [], ◌∷◌, ◌++◌, map, append_assoc, append-nil}
 use mathlib.Core.Path.{◌≡◌, refl, sym, ap, ap₂, ◌∙◌}
 use native.Mathlib.Nat.{zero-add}
 use native.Mathlib.Numerals.{add-one}
@@ -9,6 +9,7 @@ use native.Mathlib.Omega.{arith}
 use lib.ListN.{length, get_or, take, drop, length-append, length-map}
 use lib.Seq.{sets, sets-eq, take-suc, take_all}
 use lib.Dec.{eqb}
+use Rattle.std.proofs.lemmas.List.{take_at}
 use Rattle.reader.specs.Lists.{some_below}
 use Rattle.reader.specs.Bytes.{IsBytes, bytes_of, with_numbers}
 use Rattle.reader.specs.Family.{Region, Family, leaves, region_count, family_of, mark, total_length, region_fields, fields, file_of, no_region}
@@ -45,6 +46,39 @@ module _ (f : Range → ℕ) (Q : List Range) (L : List ℕ) (b : Begins (map f 
 
   begins_length : length Q ≤ length L
   begins_length = omega (arith, begins_room (map f Q) L b, length-map Q f)
+
+-- the part of it that holds these numbers
+front : (f : Range → ℕ) (Q : List Range) (L : List ℕ) (n : ℕ) → n ≡ length Q → Begins (map f Q) L → Begins (map f Q) (take n L)
+front f Q L n e b = ([], ap (take n) b.1 ∙ take_at (map f Q) b.0 n (length-map Q f ∙ sym e) ∙ sym (append-nil (map f Q)))
+
+module _ (s : List ℕ) (n : ℕ) (A B Z : List ℕ) (listed : Listed s n A B Z) where
+  pub listed_front : Listed s n (take n A) (take n B) (take n Z)
+  listed_front = record {
+    number = listed.number;
+    firsts = front (λ q. q.from) _ A n listed.number listed.firsts;
+    lasts = front (λ q. q.to) _ B n listed.number listed.lasts;
+    bounds = front (λ q. q.z) _ Z n listed.number listed.bounds;
+  }
+
+  -- the lists are long enough for that
+  pub listed_length : (n ≤ length A) × (n ≤ length B) × (n ≤ length Z)
+  listed_length = (
+    omega (arith, listed.number, begins_length (λ q. q.from) (reduced_ranges (family_of s)) A listed.firsts),
+    omega (arith, listed.number, begins_length (λ q. q.to) (reduced_ranges (family_of s)) B listed.lasts),
+    omega (arith, listed.number, begins_length (λ q. q.z) (reduced_ranges (family_of s)) Z listed.bounds),
+  )
+
+-- as ranges on the longest line
+pub line_longer : {m n : ℕ} {A B : List ℕ} → OnLine m n A B → OnLine 4096 n A B
+line_longer o = record {
+  line = omega arith;
+  firsts = o.firsts;
+  lasts = o.lasts;
+  first = o.first;
+  order = o.order;
+  last = λ k h. omega (arith, o.last k h, o.line);
+  rises = o.rises;
+}
 
 -- some range passes, or some place of the list does
 some_below_lem : (t : Range → Bool) (Q : List Range) (g : ℕ → Bool) → ((k : ℕ) → k < length Q → g k ≡ t (get_or Q k no_range)) → some_below (length Q) g ≡ some t Q
@@ -164,9 +198,6 @@ module _ (s : List ℕ) (bytes : IsBytes s) (accepted : Accepted s) (n : ℕ) (A
       rw listed.number
       (ranges_on_line F.peptides Q is_plain A B listed.firsts listed.lasts formed.peptides_most (first F.peptides (ranges_of F)) (reduced_ordered F.peptides (ranges_of F)))
 
-  pub bounds_there : n ≤ length Z
-  bounds_there = omega (arith, listed.number, begins_length (λ q. q.z) Q Z listed.bounds)
-
   listed_ends : ends_at F.peptides n A B ≡ ends_leaf F.peptides Q
   listed_ends = rw listed.number (ends_are F.peptides Q is_plain A B listed.firsts listed.lasts)
 
@@ -219,7 +250,7 @@ module _ (s : List ℕ) (bytes : IsBytes s) (accepted : Accepted s) (n : ℕ) (A
       unfolding reduced_family written_family
       peptides_are = line
 
-      fields_are : header_numbers m N n ++ (leaf_lengths m (marked_in E) ++ region_numbers n (marked_in E) A B Z) ≡ fields G
+      fields_are : header_numbers m N n 16 ++ (leaf_lengths m (marked_in E) ++ region_numbers n (marked_in E) A B Z) ≡ fields G
       unfolding fields
       fields_are = rw (regions_are, lengths_are, leaf_count, ← regions_there, peptides_are)
 
@@ -230,7 +261,7 @@ module _ (s : List ℕ) (bytes : IsBytes s) (accepted : Accepted s) (n : ℕ) (A
       pub wrote : (out : List ℕ) (total : ℕ) → length s ≤ length out → total ≡ 16 + 2 * N + 6 * n
           → Wrote s out
           (with_numbers
-          (with_numbers (sets out 0 (mark ++ bytes_of (header_numbers m N n))) 16 (leaf_lengths m (marked_in E)))
+          (with_numbers (sets out 0 (mark ++ bytes_of (header_numbers m N n 16))) 16 (leaf_lengths m (marked_in E)))
           (16 + 2 * N)
           (region_numbers n (marked_in E) A B Z))
           total n
@@ -240,7 +271,7 @@ module _ (s : List ℕ) (bytes : IsBytes s) (accepted : Accepted s) (n : ℕ) (A
           let small = total_fits in
           record {
             start =
-                joined out (header_numbers m N n) (leaf_lengths m (marked_in E)) (region_numbers n (marked_in E) A B Z) (16 + 2 * N) refl
+                joined out (header_numbers m N n 16) (leaf_lengths m (marked_in E)) (region_numbers n (marked_in E) A B Z) (16 + 2 * N) refl
                 (omega (arith, leaf_count, ap length lengths_are))
                 ∙ ap (λ (l : List ℕ). sets out 0 (mark ++ bytes_of l)) fields_are
                 ∙ at_start_lem (file_of G) (omega (arith, file_length G, (has_room (length out) room).enough, leaf_count, regions_there));

@@ -1,11 +1,12 @@
 -- What the private functions that find the kept stretches and list the reduced ranges promise each other.
-use Rattle.std.specs.Prelude.{ℕ, suc, ◌+◌, ◌-◌, ◌≤◌, ◌<◌, Bool, true, false, not, cond, ◌&&◌, ◌||◌, List, map, ◌⊎◌, ◌≡◌, length, get_or, ltb, eqb}
+use Rattle.std.specs.Prelude.{ℕ, suc, ◌+◌, ◌-◌, ◌≤◌, ◌<◌, Bool, true, false, not, cond, ◌&&◌, ◌||◌, List, map, ◌⊎◌, Option, Some, None, ◌≡◌, length, get_or, ltb, eqb}
 use Rattle.reader.specs.Lists.{some_below}
 use Rattle.reader.specs.Family.{Family, region, region_count}
 use Rattle.reader.specs.WellFormed.{WellFormed}
 use Rattle.bounds.specs.Ranges.{Range, Peptides, range_of, ranges_of, those, In}
 use Rattle.bounds.specs.Bound.{total}
 use Rattle.reduction.specs.Reduction.{live}
+use Rattle.reduction.specs.declared.keep.Ranges.{Ranges}
 use Rattle.reduction.specs.Private.Steps.{Begins, live_bytes, first_live, last_live, reduced_ranges}
 
 -- the first and the last peptide of the stretch of the k-th region, counted from 0; 0 and 0 if it has none
@@ -76,6 +77,11 @@ pub record NextStretch (F : Family) (k c : ℕ) : Type 0 where
   pub later : (j : ℕ) → c ≡ suc j → (k ≤ j) × (j < region_count F) × (1 ≤ first_at F j)
   pub first : (j : ℕ) → c ≡ suc j → (i : ℕ) → k ≤ i → i < j → first_at F i ≡ 0
 
+-- the number, counted from 1, of the region at a place; 0 for none
+abbrev pub counted : Option ℕ → ℕ
+counted None = 0
+counted (Some i) = i + 1
+
 -- the smallest z of the k-th region's stretch, or 0 if the region with the number c has the same stretch or the stretch is not kept
 unfoldable pub kept_bound : List ℕ → List ℕ → List ℕ → List ℕ → List ℕ → ℕ → ℕ → ℕ
 kept_bound A B T Z W c k =
@@ -118,16 +124,29 @@ pub record Passed (F : Family) (C : List ℕ) (k q : ℕ) : Type 0 where
   pub after : (i : ℕ) → k ≤ i → i < region_count F → 1 ≤ get_or C i 0 → q ≤ first_at F i + 1
 
 -- what is known where the runs that begin from q on, before e, are listed
-pub record RunsAhead (F : Family) (X : List ℕ) (q e : ℕ) (A B Z : List ℕ) : Type 0 where
+pub record RunsAhead (F : Family) (X : List ℕ) (q e : ℕ) : Type 0 where
   pub lives : Begins (live_bytes F) X
   pub positive : 1 ≤ q
   pub order : q ≤ e
   pub small : e ≤ F.peptides + 1
   pub few : region_count F ≤ 8191
-  pub firsts : region_count F ≤ length A
-  pub lasts : region_count F ≤ length B
-  pub bounds : region_count F ≤ length Z
 
--- these n ranges are listed, with some choice of stretches
-abbrev pub SomeGathered : Family → ℕ → ℕ → List ℕ → List ℕ → List ℕ → Type 0
-SomeGathered F q n A B Z = (t : Range → Bool) × Gathered F t q n A B Z
+-- they are the ranges listed so far
+abbrev pub GatheredIn : Family → (Range → Bool) → ℕ → Ranges → Type 0
+GatheredIn F t q r = Gathered F t q r.count r.from.now r.to.now r.bounds.now
+
+-- for some choice of stretches
+abbrev pub SomeGathered : Family → ℕ → Ranges → Type 0
+SomeGathered F q r = (t : Range → Bool) × GatheredIn F t q r
+
+-- each of its arrays has 8191 places, as many as there can be regions
+pub record Whole (r : Ranges) : Type 0 where
+  pub from : length r.from.now ≡ 8191
+  pub to : length r.to.now ≡ 8191
+  pub bounds : length r.bounds.now ≡ 8191
+
+-- it is the same three arrays that are written
+pub record SameArrays (old new : Ranges) : Type 0 where
+  pub from : new.from.ghost_name ≡ old.from.ghost_name
+  pub to : new.to.ghost_name ≡ old.to.ghost_name
+  pub bounds : new.bounds.ghost_name ≡ old.bounds.ghost_name

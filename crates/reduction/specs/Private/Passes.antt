@@ -1,6 +1,6 @@
 -- What the private functions that find the stretches promise each other.
 use Rattle.std.specs.Prelude.{ℕ, ◌+◌, ◌-◌, ◌<◌, ◌≤◌, true, cond, List, ◌⊎◌, ◌≡◌, length, get_or, eqb, leb, ltb}
-use Rattle.reader.specs.Family.{Family, family_of, leaves, region_count, region, peptides_up_to}
+use Rattle.reader.specs.Family.{Family, leaves, region_count, region, peptides_up_to}
 use Rattle.reader.specs.WellFormed.{WellFormed, ParentsBelow}
 use Rattle.bounds.specs.Ranges.{Peptides, ranges_of, range_at}
 use Rattle.reduction.specs.Reduction.{live, last_of}
@@ -34,7 +34,6 @@ pub record Beginning (F : Family) (j sum k : ℕ) (L : List ℕ) : Type 0 where
   pub leaf : j < leaves F
   pub sums : sum ≡ peptides_up_to F j
   pub begun : Begun F j k L
-  pub room : region_count F ≤ length L
 
 -- k is the number of regions that have begun with leaf j, no fewer than before
 pub record Began (F : Family) (j before k : ℕ) (L : List ℕ) : Type 0 where
@@ -52,12 +51,6 @@ pub record Ending (F : Family) (P : List ℕ) (j sum c : ℕ) (H : List ℕ) : T
   pub family : WithParents F P
   pub sums : sum ≡ peptides_up_to F j
   pub opened : Open F j j H c
-  pub room : region_count F ≤ length H
-
--- each list has a place for every region
-pub record RoomForRegions (F : Family) (A B : List ℕ) : Type 0 where
-  pub first : region_count F ≤ length A
-  pub second : region_count F ≤ length B
 
 -- the low and high ends of every region
 pub record Ends (F : Family) (L H : List ℕ) : Type 0 where
@@ -68,20 +61,8 @@ pub record Ends (F : Family) (L H : List ℕ) : Type 0 where
 pub record Ended (F : Family) (L H : List ℕ) : Type 0 where
   pub formed : WellFormed F
   pub ends : Ends F L H
-  pub rooms : RoomForRegions F L H
 
--- The live peptides, in one pass over the regions and the peptides.
-
--- M is L with the bytes from one place to another written anew: 0 for the first `until` peptides, 1 for those after them
-pub record LiveMarked (L M : List ℕ) (from to until : ℕ) : Type 0 where
-  pub old : (p : ℕ) → p < from → get_or M p 0 ≡ get_or L p 0
-  pub new : (p : ℕ) → from ≤ p → p < to → get_or M p 0 ≡ cond (ltb p until) 0 1
-
--- with a region more, which has that z and that high end, the dead peptides reach up to v, not u
-pub record Reached (z high u v : ℕ) : Type 0 where
-  pub grows : u ≤ v
-  pub covers : z ≡ 0 → high ≤ v
-  pub is : (v ≡ u) ⊎ ((z ≡ 0) × (v ≡ high))
+-- The live peptides, in one pass over the regions.
 
 -- the first n live bytes are right
 abbrev pub LiveUpTo : Family → ℕ → List ℕ → Type 0
@@ -101,27 +82,18 @@ Nexts m X A = (p : ℕ) → 1 ≤ p → p ≤ m + 1 → Next m X p (get_or A p 0
 abbrev pub Lasts : ℕ → Peptides → List ℕ → Type 0
 Lasts m X B = (p : ℕ) → p ≤ m → get_or B p 0 ≡ last_of p X
 
--- a byte for each of the m peptides, and a place for each of the numbers 0 to m + 1
-pub record RoomForPeptides (m : ℕ) (L A : List ℕ) : Type 0 where
-  pub few : m ≤ 4096
-  pub bytes : m ≤ length L
-  pub places : m + 1 < length A
-
 -- The first and last live peptide of each region.
 
 -- the live bytes are known
 pub record WithLives (F : Family) (L H M : List ℕ) : Type 0 where
   pub ended : Ended F L H
   pub lives : LiveUpTo F F.peptides M
-  pub bytes : F.peptides ≤ length M
 
 -- the first live peptide from each peptide on, and the last one up to each peptide, are known
 pub record WithNearest (F : Family) (L H A B : List ℕ) : Type 0 where
   pub ended : Ended F L H
   pub nexts : Nexts F.peptides (live (ranges_of F)) A
   pub lasts : Lasts F.peptides (live (ranges_of F)) B
-  pub places_after : F.peptides + 1 < length A
-  pub places_before : F.peptides < length B
 
 -- p if it is a peptide of a region with that z, 1 or more, and these ends; else 0
 abbrev pub if_within : ℕ → ℕ → ℕ → ℕ → ℕ
@@ -133,9 +105,3 @@ FirstsUpTo F k A = (i : ℕ) → i < k → get_or A i 0 ≡ first_live F (range_
 
 abbrev pub LastsUpTo : Family → ℕ → List ℕ → Type 0
 LastsUpTo F k B = (i : ℕ) → i < k → get_or B i 0 ≡ last_live F (range_at F i)
-
--- room for the live bytes, and for the first and last live peptides
-pub record RoomForStretches (s L A B : List ℕ) : Type 0 where
-  pub lives : (family_of s).peptides ≤ length L
-  pub firsts : region_count (family_of s) ≤ length A
-  pub lasts : region_count (family_of s) ≤ length B

@@ -6,6 +6,7 @@ use Rattle.reader.specs.Nesting.{parents}
 use Rattle.reader.specs.Causes.{Accepted}
 use Rattle.bounds.specs.Ranges.{Range, ranges_of}
 use Rattle.bounds.specs.Selections.{totals_of}
+use Rattle.reduction.specs.declared.stretch.Stretch.{Stretch}
 use Rattle.reduction.specs.Reduction.{first_of, last_of, live, live_peptides, reduced}
 
 -- the list begins with these elements
@@ -29,6 +30,13 @@ firsts_live F = map (first_live F) (ranges_of F)
 
 unfoldable pub lasts_live : Family → List ℕ
 lasts_live F = map (last_live F) (ranges_of F)
+
+-- the first, and the last, peptides of stretches
+abbrev pub firsts_of : List Stretch → List ℕ
+firsts_of S = map (λ s. s.first) S
+
+abbrev pub lasts_of : List Stretch → List ℕ
+lasts_of S = map (λ s. s.last) S
 
 -- the reduced ranges
 unfoldable pub reduced_ranges : Family → List Range

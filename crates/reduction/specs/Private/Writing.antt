@@ -1,14 +1,13 @@
 -- What the private functions that write the reduced file promise each other.
-use Rattle.std.specs.Prelude.{ℕ, ◌+◌, ◌-◌, ◌≤◌, ◌<◌, cond, ◌||◌, List, [], ◌∷◌, ◌++◌, ◌≡◌, length, get_or, drop, eqb}
+use Rattle.std.specs.Prelude.{ℕ, ◌+◌, ◌*◌, ◌-◌, ◌≤◌, ◌<◌, cond, ◌||◌, List, [], ◌∷◌, ◌++◌, ◌≡◌, length, get_or, drop, eqb}
 use Rattle.reader.specs.Lists.{some_below}
 use Rattle.reader.specs.Bytes.{number_at}
-use Rattle.reader.specs.Family.{lengths_offset, regions_offset, total_length}
 use Rattle.bounds.specs.Ranges.{Peptides, card}
 use Rattle.reduction.specs.Reduction.{rising, reduced_file}
 
--- the six numbers after the mark, of a family with N leaves and K regions
-abbrev pub header_numbers : ℕ → ℕ → ℕ → List ℕ
-header_numbers m N K = m ∷ N ∷ K ∷ lengths_offset ∷ regions_offset N ∷ total_length N K ∷ []
+-- the six numbers after the mark, of a file with N leaves and K regions whose leaf lengths begin at the given byte
+abbrev pub header_numbers : ℕ → ℕ → ℕ → ℕ → List ℕ
+header_numbers m N K start = m ∷ N ∷ K ∷ start ∷ (start + 2 * N) ∷ (start + 2 * N + 6 * K) ∷ []
 
 -- n ranges, by first and last peptide, on the line of the peptides 1 to m; their first peptides rise
 pub record OnLine (m n : ℕ) (A B : List ℕ) : Type 0 where

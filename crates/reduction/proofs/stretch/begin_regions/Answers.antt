@@ -1,53 +1,34 @@
+use Prim.Native.Nat.{ℕ, ◌+◌}
 use native.Mathlib.Omega.{arith}
-use mathlib.Core.Path.{refl, sym, ◌∙◌}
-use lib.ListN.{length-set}
+use mathlib.Core.Path.{◌≡◌, sym, subst, ◌∙◌}
+use Rattle.reader.specs.Family.{family_of}
 use Rattle.reader.proofs.Parsed.{held_first}
+use Rattle.reduction.specs.Private.Passes.{Begun}
 use Rattle.reduction.proofs.Stretching.OpenRegions.{still_begun, one_begins, all_begun}
 use Rattle.reduction.proofs.stretch.begin_regions.Goals as goal
 
 pub loop-k-init : goal.loop-k-init
 loop-k-init c =
-    let pre = c.requires in
-    (omega (arith, pre.begun.lows.few, c.region_count-regions.ensures), c.region_count-regions.ensures, refl, omega arith, still_begun _ pre.formed pre.begun)
+    still_begun _ c.requires.formed c.requires.begun
 
-pub overflow_add-passed : goal.overflow_add-passed
-overflow_add-passed c =
-    let pre = c.requires in omega (arith, pre.leaf, pre.formed.leaves_most, pre.formed.peptides_most)
-
-pub returns-then-first-passed : goal.returns-then-first-passed
-returns-then-first-passed c =
+pub returns-then-first-leaf : goal.returns-then-first-leaf
+returns-then-first-leaf c =
     let pre = c.requires in
-    let inv = c.loop-k.invariant in
     record {
-      begun = all_begun _ pre.formed c.args.leaf.0 c.args.begun c.loop-k.k _ _ pre.begun inv.3 inv.4 (λ l e. c.if-first-passed.true (held_first _ _ c.region_of-r.ensures ∙ e));
-      more = inv.3;
+      begun = all_begun _ pre.formed c.args.leaf.0 c.args.begun c.loop-k.k _ _ pre.begun c.loop-k.auto.k c.loop-k.invariant (λ l e. c.if-first-leaf.true (held_first _ _ c.region_of.ensures ∙ e));
+      more = c.loop-k.auto.k;
     }
-
-pub bounds-lows-k : goal.bounds-lows-k
-bounds-lows-k c =
-    omega (arith, c.loop-k.invariant, c.loop-k-test.true, c.requires.room)
-
-pub overflow_add-k : goal.overflow_add-k
-overflow_add-k c =
-    omega (arith, c.region_count-regions.type_inv, c.loop-k-test.true)
 
 pub loop-k-preserved : goal.loop-k-preserved
 loop-k-preserved c =
     let pre = c.requires in
-    let inv = c.loop-k.invariant in
-    let test = c.loop-k-test.true in (
-      omega arith,
-      inv.1,
-      simp length-set inv.2,
-      omega arith,
-      one_begins _ pre.formed c.args.leaf.0 c.loop-k.k c.args.peptide.0 c.loop-k.lows (omega arith) (omega (arith, pre.room)) (sym (held_first _ _ c.region_of-r.ensures) ∙ c.if-first-passed.false) pre.sums inv.4,
-    )
+    one_begins _ pre.formed c.args.leaf.0 c.loop-k.k c.args.peptide.0 c.loop-k.lows (omega arith) (omega (arith, pre.formed.regions_most)) (sym (held_first _ _ c.region_of.ensures) ∙ c.if-first-leaf.false) pre.sums c.loop-k.invariant
 
 pub returns : goal.returns
 returns c =
     let pre = c.requires in
-    let inv = c.loop-k.invariant in
+    let end : c.loop-k.k ≡ c.region_count-regions.result = omega (arith, pre.begun.lows.few) in
     record {
-      begun = all_begun _ pre.formed c.args.leaf.0 c.args.begun c.loop-k.k _ _ pre.begun inv.3 inv.4 (λ l e. omega (arith, c.loop-k-test.false));
-      more = inv.3;
+      begun = subst (λ (k : ℕ). Begun (family_of c.args.file.now) (c.args.leaf.0 + 1) k c.loop-k.lows) end (all_begun _ pre.formed c.args.leaf.0 c.args.begun c.loop-k.k _ _ pre.begun c.loop-k.auto.k c.loop-k.invariant (λ l e. omega arith));
+      more = omega arith;
     }

@@ -1,12 +1,10 @@
 -- The loop has ended the regions inside the open one, which reaches the leaf.
-use mathlib.Core.Path.{◌≡◌}
-use lib.ListN.{length}
 use Rattle.reader.specs.Family.{family_of}
 use Rattle.reduction.specs.Private.Passes.{Open}
 use Rattle.reduction.proofs.stretch.end_regions.Given as goal
 
 abbrev pub invariant-loop-number : goal.invariant-loop-number
-invariant-loop-number l = (length l.highs ≡ length l.initial.highs) × Open (family_of l.file) l.end l.end l.highs l.number
+invariant-loop-number l = Open (family_of l.file) l.leaf.0 l.leaf.0 l.highs l.number
 
 abbrev pub decreases-loop-number : goal.decreases-loop-number
 decreases-loop-number l = l.number
