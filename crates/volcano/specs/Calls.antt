@@ -1,6 +1,8 @@
 -- What `choose` answers and writes, defined from its inputs.
-use Rattle.std.specs.Prelude.{ℕ, List, [], ◌∷◌, ◌≡◌, length, Float}
+use Rattle.std.specs.Prelude.{ℕ, List, [], ◌∷◌, ◌≡◌, length, Float, Result}
 use Rattle.reader.specs.Causes.{Cause, cause2, first_cause}
+use Rattle.reader.specs.declared.refusal.Refusal.{Refusal}
+use Rattle.reader.specs.Refusals.{verdict}
 use Rattle.reader.specs.Calls.{written}
 use Rattle.volcano.specs.Rules.{chosen, cause17, cause18, cause19}
 use Rattle.volcano.specs.declared.Rule.{Rule}
@@ -18,8 +20,8 @@ choose_causes m ps folds rule room =
 -- in it.
 
 -- the answer r: no value comes with it, so it is the number alone
-abbrev pub ChooseAnswers : ℕ → List Float → List Float → Rule → List ℕ → ℕ → Type 0
-ChooseAnswers m ps folds rule out r = r ≡ first_cause (choose_causes m ps folds rule (length out))
+abbrev pub ChooseAnswers : ℕ → List Float → List Float → Rule → List ℕ → Result (Unit {0}) Refusal → Type 0
+ChooseAnswers m ps folds rule out r = verdict r ≡ first_cause (choose_causes m ps folds rule (length out))
 
 -- the selection
 abbrev pub ChooseWrites : ℕ → List Float → List Float → Rule → List ℕ → List ℕ → Type 0

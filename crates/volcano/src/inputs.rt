@@ -1,10 +1,12 @@
 // Causes 2 and 17 to 19: the number of peptides, the slices, the rows and the rule.
 ghost use Rattle.std.specs.Prelude.{◌≡◌};
 ghost use Rattle.reader.specs.Causes.{cause2, first_cause};
+ghost use Rattle.reader.specs.Refusals.{verdict};
 ghost use Rattle.volcano.specs.Rules.{off_scale, cause17, cause18, cause19};
 ghost use Rattle.volcano.specs.Calls.{choose_causes};
 
 use crate::Rule;
+use reader::refusal::Refusal;
 
 // m is 0 or over 4,096.
 #[tactic(auto, unfolding(reader::specs::Causes::cause2))]
@@ -49,18 +51,21 @@ fn bad_rule(rule: Rule) -> bool
     }
 }
 
-// The first cause of a choice with an output of so many places, or 0.
-pub(crate) fn choose_cause(m: u16, p_values: &[f64], folds: &[f64], rule: Rule, room: usize) -> u16
-    ensures { result ≡ first_cause (choose_causes m p_values.now folds.now rule room) }
+// Declines a choice with an output of so many places for the first cause that holds.
+pub(crate) fn check_choice(m: u16, p_values: &[f64], folds: &[f64], rule: Rule, room: usize) -> Result<(), Refusal>
+    ensures { verdict result ≡ first_cause (choose_causes m p_values.now folds.now rule room) }
 {
     if bad_count(m) {
-        return 2;
+        return Err(Refusal::PeptideCount);
     }
     if wrong_lengths(m, p_values, folds, room) {
-        return 17;
+        return Err(Refusal::RowCount);
     }
     if bad_rows(p_values, folds) {
-        return 18;
+        return Err(Refusal::Row);
     }
-    if bad_rule(rule) { 19 } else { 0 }
+    if bad_rule(rule) {
+        return Err(Refusal::Rule);
+    }
+    Ok(())
 }

@@ -8,7 +8,8 @@ ghost use Rattle.volcano.specs.Rules as rules;
 ghost use Rattle.volcano.specs.Rules.{chosen};
 ghost use Rattle.volcano.specs.Calls.{ChooseAnswers, ChooseWrites};
 
-use inputs::choose_cause;
+use inputs::check_choice;
+use reader::refusal::Refusal;
 
 // What is measured of a peptide.
 #[derive(Clone, Copy)]
@@ -51,16 +52,12 @@ fn write_chosen(p_values: &[f64], folds: &[f64], rule: Rule, out: &mut [u8])
     }
 }
 
-// The selection of the peptides whose row passes the rule, at the start of the output; the answer is the number of the first cause
-// that holds, 0 for none. A declined call leaves the output unchanged.
-pub fn choose(m: u16, p_values: &[f64], folds: &[f64], rule: Rule, out: &mut [u8]) -> u16
+// The selection of the peptides whose row passes the rule, at the start of the output. A declined call leaves the output unchanged.
+pub fn choose(m: u16, p_values: &[f64], folds: &[f64], rule: Rule, out: &mut [u8]) -> Result<(), Refusal>
     ensures choose_answers { ChooseAnswers m p_values.now folds.now rule out.old result }
     ensures choose_writes { ChooseWrites m p_values.now folds.now rule out.old out.new }
 {
-    let cause = choose_cause(m, p_values, folds, rule, out.len());
-    if cause != 0 {
-        return cause;
-    }
+    check_choice(m, p_values, folds, rule, out.len())?;
     write_chosen(p_values, folds, rule, out);
-    0
+    Ok(())
 }

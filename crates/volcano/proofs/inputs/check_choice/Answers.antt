@@ -5,8 +5,8 @@ use Rattle.reader.specs.Causes.{cause2, first_cause}
 use Rattle.volcano.specs.Rules.{cause19}
 use Rattle.volcano.specs.Calls.{choose_causes}
 use Rattle.volcano.proofs.Judging.{number_2, number_17, number_18, number_19}
-use Rattle.volcano.proofs.inputs.choose_cause.Goals as goal
-use Rattle.volcano.proofs.inputs.choose_cause.Goals.{Else-bad_count, Else-bad_rows}
+use Rattle.volcano.proofs.inputs.check_choice.Goals as goal
+use Rattle.volcano.proofs.inputs.check_choice.Goals.{Else-bad_count, Else-bad_rows}
 
 no2 : (c : Else-bad_count) → cause2 c.args.m ≡ false
 no2 c = sym c.bad_count.ensures ∙ c.if-bad_count.false
@@ -32,6 +32,6 @@ pub returns-then-bad_rule : goal.returns-then-bad_rule
 returns-then-bad_rule c =
     sym (rw (sym c.bad_rule.ensures ∙ c.if-bad_rule.true) at (only19 (goal.at.returns-then-bad_rule c).Else-bad_rows))
 
-pub returns-else-bad_rule : goal.returns-else-bad_rule
-returns-else-bad_rule c =
-    sym (rw (sym c.bad_rule.ensures ∙ c.if-bad_rule.false) at (only19 (goal.at.returns-else-bad_rule c).Else-bad_rows))
+pub returns : goal.returns
+returns c =
+    sym (rw (sym c.bad_rule.ensures ∙ c.if-bad_rule.false) at (only19 (goal.at.returns c).Else-bad_rows))
