@@ -1,5 +1,5 @@
--- Text appended to a buffer, piece by piece, and how long the pieces are.
-use Prim.Native.Nat.{ℕ, zero, suc, ◌+◌, ◌-◌, ◌%◌, ◌<◌, ◌≤◌}
+-- The pieces of the text, and how long they are.
+use Prim.Native.Nat.{ℕ, zero, suc, ◌+◌, ◌*◌, ◌-◌, ◌/◌, ◌%◌, ◌<◌, ◌≤◌}
 use native.Mathlib.Omega.{arith}
 use native.Mathlib.Numerals.{add-one}
 use mathlib.Core.List.{List, [], ◌∷◌, ◌++◌, append-nil, append_assoc}
@@ -8,23 +8,12 @@ use mathlib.Core.Logic.{⊎_elim}
 use lib.ListN.{length, get_or, take, set, length-append, length-set}
 use lib.Seq.{take-suc-set, take-suc}
 use lib.Dec.{leb}
+use borrow.Author.Tests.{le-leb, lt-leb}
+use Rattle.bounds.proofs.Basics.Members.{le_or_lt}
 use Rattle.reader.proofs.Bools.{test}
-use Rattle.curve.specs.Text.{digit_at, decimal, field_of, line_of, rows, row_at}
-use Rattle.curve.specs.Private.Appends.{Appends}
-
-pub appends_none : (b : List ℕ) (at : ℕ) → at ≤ length b → Appends b at b at []
-appends_none b at h = record { ends = omega arith; text = sym (append-nil (take at b)); fits = h }
-
-pub appends_byte : (b : List ℕ) (at x : ℕ) → at < length b → Appends b at (set b at x) (at + 1) (x ∷ [])
-appends_byte b at x h = record { ends = refl; text = rw add-one (take-suc-set b at x h); fits = omega (arith, length-set b at x) }
-
-pub appends_then : {b m a : List ℕ} {at e r : ℕ} {x y : List ℕ} → Appends b at m e x → Appends m e a r y → Appends b at a r (x ++ y)
-appends_then {b} {m} {a} {at} {e} {r} {x} {y} p q =
-    record {
-      ends = omega (arith, p.ends, q.ends, length-append x y);
-      text = q.text ∙ ap (λ (l : List ℕ). l ++ y) p.text ∙ append_assoc (take at b) x y;
-      fits = q.fits;
-    }
+use Rattle.curve.specs.Text.{digit_at, decimal, field_of, line_of, heading, rows, row_at}
+use Rattle.std.specs.Fmt as std
+use Rattle.std.proofs.lemmas.Fmt as law
 
 pub digit_short : (place n : ℕ) → length (digit_at place n) ≤ 1
 unfolding digit_at
@@ -67,37 +56,71 @@ line_short a b c d =
       field_short d 10,
     )
 
--- one more of the bytes that a loop appends
-pub appends_more :
-    {b out : List ℕ} (bytes : List ℕ) {at : ℕ} (i : ℕ) → Appends b at out (at + i) (take i bytes) → i < length bytes → at + i < length out
-    → Appends b at (set out (at + i) (get_or bytes i 0)) (at + (i + 1)) (take (i + 1) bytes)
-appends_more {b} {out} bytes {at} i p l h =
-    let q = appends_then p (appends_byte out (at + i) (get_or bytes i 0) h) in
-    rw (regroup at i, add-one i, take-suc bytes i 0 l) q
-  where
-    regroup : (a i : ℕ) → a + (i + 1) ≡ a + i + 1
-    regroup a i = omega arith
+-- std's decimal digits are those of the table
 
--- the texts of a loop's turns
-pub rows_none : (f : ℕ → List ℕ) → rows 0 f ≡ []
-unfolding rows
-rows_none f = refl
+digit_up : (place ten n : ℕ) → (place ≤ n / 10 → ten ≤ n) → (n / 10 < place → n < ten) → n / 10 / place ≡ n / ten → digit_at place (n / 10) ≡ digit_at ten n
+unfolding digit_at
+digit_up place ten n some none e =
+    ⊎_elim
+    (λ h. rw (le-leb place (n / 10) h, le-leb ten n (some h), e))
+    (λ h. rw (lt-leb place (n / 10) h, lt-leb ten n (none h)))
+    (le_or_lt place (n / 10))
 
-pub rows_more : (n : ℕ) (f : ℕ → List ℕ) → rows (n + 1) f ≡ rows n f ++ f n
-unfolding rows
-rows_more n f = rw add-one refl
+digit_none : (place n : ℕ) → n < place → digit_at place n ≡ []
+unfolding digit_at
+digit_none place n h = rw (lt-leb place n h)
 
-pub row_zero : (path values marks : List ℕ) (t : ℕ) → t ≡ 0 → row_at path values marks t ≡ line_of 0 0 (get_or values 0 0) 0
+digit_some : (place n : ℕ) → place ≤ n → digit_at place n ≡ (48 + n / place % 10) ∷ []
+unfolding digit_at
+digit_some place n h = rw (le-leb place n h)
+
+printed_one : (n : ℕ) → n < 10 → (48 + n) ∷ [] ≡ decimal n
+unfolding decimal digit_at
+printed_one n h = rw (lt-leb 10000 n (omega arith), lt-leb 1000 n (omega arith), lt-leb 100 n (omega arith), lt-leb 10 n (omega arith)) (ap (λ (d : ℕ). (48 + d) ∷ []) (omega arith))
+
+printed_more : (n : ℕ) → 10 ≤ n → n < 65536 → decimal (n / 10) ++ ((48 + n % 10) ∷ []) ≡ decimal n
+unfolding decimal
+printed_more n some small =
+    rw (
+      digit_none 10000 (n / 10) (omega arith),
+      digit_up 1000 10000 n (λ h. omega arith) (λ h. omega arith) (omega arith),
+      digit_up 100 1000 n (λ h. omega arith) (λ h. omega arith) (omega arith),
+      digit_up 10 100 n (λ h. omega arith) (λ h. omega arith) (omega arith),
+      ← digit_some 10 n some,
+    ) (simp append_assoc)
+
+pub printed : (n : ℕ) → n < 65536 → std.decimal n ≡ decimal n
+printed n h =
+    law.decimal_by_steps (λ (m : ℕ) (ds : List ℕ). m < 65536 → ds ≡ decimal m) (λ m few small. printed_one m few)
+    (λ m ds some before small. ap (λ (l : List ℕ). l ++ ((48 + m % 10) ∷ [])) (before (omega arith)) ∙ printed_more m some small)
+    n (omega arith) h
+
+-- The lines of the table.
+
+pub row_next :
+    (path values marks : List ℕ) (i : ℕ) → row_at path values marks (i + 1) ≡ line_of (i + 1) (get_or path i 0) (get_or values (i + 1) 0) (get_or marks i 0)
 unfolding row_at
-row_zero path values marks t e = rw e
+row_next path values marks i = rw add-one refl
 
-pub row_later :
-    (path values marks : List ℕ) (t : ℕ) → (t ≡ 0 → ⊥)
-    → row_at path values marks t ≡ line_of t (get_or path (t - 1) 0) (get_or values t 0) (get_or marks (t - 1) 0)
-unfolding row_at
-row_later path values marks zero h = absurd (h refl)
-row_later path values marks (suc t) h = ap (λ (i : ℕ). line_of (suc t) (get_or path i 0) (get_or values (suc t) 0) (get_or marks i 0)) (omega arith)
-
-pub row_short : (path values marks : List ℕ) (t : ℕ) → length (row_at path values marks t) ≤ 24
+row_short : (path values marks : List ℕ) (t : ℕ) → length (row_at path values marks t) ≤ 24
 unfolding row_at
 row_short path values marks t = line_short t (get_or (0 ∷ path) t 0) (get_or values t 0) (get_or (0 ∷ marks) t 0)
+
+pub rows_one : (path values marks : List ℕ) → rows 1 (row_at path values marks) ≡ line_of 0 0 (get_or values 0 0) 0
+unfolding rows row_at
+rows_one path values marks = refl
+
+pub rows_next : (a h x : List ℕ) (n : ℕ) (f : ℕ → List ℕ) → x ≡ f n → (a ++ (h ++ rows n f)) ++ x ≡ a ++ (h ++ rows (n + 1) f)
+unfolding rows
+rows_next a h x n f e = rw (e, add-one n) (simp append_assoc)
+
+rows_short : (path values marks : List ℕ) (n : ℕ) → length (rows n (row_at path values marks)) ≤ 24 * n
+unfolding rows
+rows_short path values marks zero = omega arith
+rows_short path values marks (suc n) =
+    let f = row_at path values marks in
+    omega (arith, length-append (rows n f) (f n), rows_short path values marks n, row_short path values marks n)
+
+pub table_short : (path values marks : List ℕ) (n : ℕ) → length (heading ++ rows n (row_at path values marks)) ≤ 21 + 24 * n
+unfolding heading
+table_short path values marks n = omega (arith, rows_short path values marks n)

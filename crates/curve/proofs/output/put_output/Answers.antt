@@ -1,5 +1,4 @@
 -- An odd byte count is refused; else the text is the curve's.
-use native.Mathlib.Nat.{sub-zero}
 use mathlib.Core.Path.{sym, ◌∙◌}
 use borrow.Author.Tests.{eq-eqb, ne_eqb}
 use Rattle.curve.specs.Program.{odd}
@@ -13,7 +12,7 @@ returns-then-path-eq1 c =
     let bytes = c.args.path.now in
     let o = eq-eqb _ 1 c.if-path-eq1.true in
     let number = c.odd_path_number.ensures bytes o in
-    rw (odd_text s bytes _ o number (λ z. odd_refused s bytes o (sym number ∙ z))) c.put_refusal.ensures
+    rw (odd_text s bytes _ o number (λ z. odd_refused s bytes o (sym number ∙ z))) (rw c.requires.empty at c.put_refusal.ensures)
 
 pub returns : goal.returns
 unfolding odd
@@ -21,4 +20,4 @@ returns c =
     let s = c.args.family.now in
     let bytes = c.args.path.now in
     let decoded = c.decode-n.ensures.path in
-    rw (even_path s bytes (ne_eqb _ 1 c.if-path-eq1.false)) (rw (sub-zero, decoded) at c.print_curve.ensures)
+    rw (even_path s bytes (ne_eqb _ 1 c.if-path-eq1.false)) (rw decoded at c.put_curve.ensures)
