@@ -1,13 +1,12 @@
 // From the bytes of the two files to the text that the program prints, and the printing of it.
-ghost use Rattle.std.specs.Prelude.{◌≡◌, true, List, [], ℕ, ◌≤◌, length};
+ghost use Rattle.std.specs.Prelude.{◌≡◌, true, List, ℕ};
 ghost use Rattle.reader.specs.Causes.{first_cause};
 ghost use Rattle.bounds.specs.Calls.{input_causes};
 ghost use Rattle.curve.specs.Program.{program_causes, odd, text_of, output};
-ghost use Rattle.curve.specs.Buffers.{path_room, text_room};
 
 use crate::buffer::Buffer;
 use crate::input::{FAMILY_ROOM, PATH_ROOM, decode};
-use crate::text::{TEXT_ROOM, Text, put_refusal, put_table};
+use crate::text::{Text, refusal_text, table_text};
 use bounds::Curved;
 use reader::Checked;
 
@@ -26,42 +25,30 @@ fn odd_path_number(family: &[u8]) -> u16
 }
 
 // The text for a path: the curve's table, or the number of its refusal.
-fn put_curve(family: &[u8], path: &[u16], text: &mut Text)
-    requires { text.old ≡ [] }
-    ensures { text.new ≡ text_of (first_cause (input_causes family.now path.now)) family.now path.now }
+fn curve_text(family: &[u8], path: &[u16]) -> Text
+    ensures { result ≡ text_of (first_cause (input_causes family.now path.now)) family.now path.now }
 {
     let mut values = [0u16; 4097];
     let mut marks = [0u8; 4096];
     match bounds::curve(family, path, &mut values, &mut marks) {
-        Curved::Written => put_table(text, path, &values, &marks),
-        Curved::Refused(number) => put_refusal(text, number),
-        Curved::Repeated(_) => put_refusal(text, 13),
+        Curved::Written => table_text(path, &values, &marks),
+        Curved::Refused(number) => refusal_text(number),
+        Curved::Repeated(_) => refusal_text(13),
     }
-}
-
-// The text for the bytes of the two files.
-fn put_output(family: &[u8], path: &[u8], text: &mut Text)
-    requires short { length path.now ≤ path_room }
-    requires empty { text.old ≡ [] }
-    ensures { text.new ≡ output family.now path.now }
-{
-    if path.len() % 2 == 1 {
-        put_refusal(text, odd_path_number(family));
-        return;
-    }
-    let mut numbers = [0u16; 4097];
-    let n = decode(path, &mut numbers);
-    put_curve(family, &numbers[..n], text);
 }
 
 // What the program prints, from the bytes of the two files.
 pub(crate) fn render(family: &Buffer<FAMILY_ROOM>, path: &Buffer<PATH_ROOM>) -> Text
-    ensures room { TEXT_ROOM ≡ text_room }
-    ensures text { result ≡ output family.now path.now }
+    ensures { result ≡ output family.now path.now }
 {
-    let mut text = Buffer::new();
-    put_output(family.as_slice(), path.as_slice(), &mut text);
-    text
+    let family = family.as_slice();
+    let path = path.as_slice();
+    if path.len() % 2 == 1 {
+        return refusal_text(odd_path_number(family));
+    }
+    let mut numbers = [0u16; 4097];
+    let n = decode(path, &mut numbers);
+    curve_text(family, &numbers[..n])
 }
 
 // A line on standard error tells a cut table from a whole one.

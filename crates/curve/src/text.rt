@@ -1,8 +1,7 @@
 // The program's text, written piece by piece.
-ghost use Rattle.std.specs.Prelude.{◌≡◌, ◌+◌, ◌*◌, ◌++◌, ◌≤◌, length};
+ghost use Rattle.std.specs.Prelude.{◌≡◌, ◌+◌, ◌++◌, ◌≤◌, length};
 ghost use Rattle.curve.specs.Text.{field_of, line_of, table_of, refusal};
 ghost use Rattle.curve.specs.Buffers.{text_room};
-ghost use Rattle.curve.specs.Private.Appends.{Rows};
 
 use crate::buffer::Buffer;
 use reader::family::Peptide;
@@ -35,24 +34,26 @@ fn put_line(text: &mut Text, t: u16, peptide: Peptide, value: u16, mark: u8)
 }
 
 // The heading, and a line for each t from 0 to the path's length.
-pub(crate) fn put_table(text: &mut Text, path: &[u16], values: &[u16], marks: &[u8])
-    requires rows { Rows path.now values.now marks.now }
-    requires room { length text.old + (21 + 24 * (length path.now + 1)) ≤ text_room }
-    ensures { text.new ≡ text.old ++ table_of path.now values.now marks.now }
+pub(crate) fn table_text(path: &[u16], values: &[u16; 4097], marks: &[u8; 4096]) -> Text
+    requires { length path.now ≤ 4096 }
+    ensures { result ≡ table_of path.now values.now marks.now }
 {
+    let mut text = Buffer::new();
     text.extend(b"t peptide bound mark\n");
-    put_line(text, 0, Peptide(0), values[0], 0);
+    put_line(&mut text, 0, Peptide(0), values[0], 0);
     for (i, number) in path.iter().enumerate() {
         let t = i + 1;
-        put_line(text, t as u16, Peptide(*number), values[t], marks[i]);
+        put_line(&mut text, t as u16, Peptide(*number), values[t], marks[i]);
     }
+    text
 }
 
 // One line with the number of a refusal.
-pub(crate) fn put_refusal(text: &mut Text, number: u16)
-    requires { length text.old + 14 ≤ text_room }
-    ensures { text.new ≡ text.old ++ refusal number }
+pub(crate) fn refusal_text(number: u16) -> Text
+    ensures { result ≡ refusal number }
 {
+    let mut text = Buffer::new();
     text.extend(b"refused ");
-    put_field(text, number, b'\n');
+    put_field(&mut text, number, b'\n');
+    text
 }

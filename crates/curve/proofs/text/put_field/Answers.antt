@@ -2,7 +2,7 @@
 use native.Mathlib.Omega.{arith}
 use mathlib.Core.List.{append_assoc}
 use Rattle.curve.specs.Text.{field_of}
-use Rattle.curve.proofs.Appending.{printed}
+use Rattle.curve.proofs.Pieces.{printed}
 use Rattle.curve.proofs.text.put_field.Goals as goal
 
 pub returns : goal.returns

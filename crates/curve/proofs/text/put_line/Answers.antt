@@ -5,7 +5,7 @@ use mathlib.Core.List.{append_assoc}
 use mathlib.Core.Path.{ap}
 use lib.ListN.{length, length-append}
 use Rattle.curve.specs.Text.{line_of}
-use Rattle.curve.proofs.Appending.{field_short}
+use Rattle.curve.proofs.Pieces.{field_short}
 use Rattle.curve.proofs.text.put_line.Goals as goal
 
 pub put_field-requires-2 : goal.put_field-requires-2
