@@ -10,6 +10,7 @@
 --   not_same          it fails for lists that are not equal
 --   same_all          it passes for lists of one length that agree at every place
 --   same_is           it passes for equal lists
+--   same_pointwise    it is the library's test that two slices are equal
 --   copy_more         a copy of the front of one list into another, one element further
 --   tabulate_more     `tabulate` with one element more
 --   write_none        a list that is written from the start with f 0, f 1, ..: before the first
@@ -21,7 +22,7 @@ use Prim.Native.Nat.{ℕ, zero, suc, ◌+◌, ◌<◌, ◌≤◌}
 use native.Mathlib.Nat.{not-suc-le-zero, le_of_suc-le-suc}
 use native.Mathlib.Omega.{arith}
 use native.Mathlib.Numerals.{add-one}
-use mathlib.Core.Bool.{true, false}
+use mathlib.Core.Bool.{Bool, true, false}
 use mathlib.Core.List.{List, [], ◌∷◌, ◌++◌, map}
 use mathlib.Core.Path.{◌≡◌, refl, sym, ap, ◌∙◌}
 use mathlib.Core.Logic.{⊎_elim}
@@ -29,6 +30,9 @@ use lib.ListN.{length, get_or, take, drop, set, replicate}
 use lib.Seq.{ext_get_or, drop-cons, take-suc, set_at, append_snoc, drop-set-lt, length-take-le, get_or-set_same, get_or-set_other}
 use lib.Dec.{eqb}
 use borrow.Author.Tests.{eqb-true, eq-eqb}
+use Rattle.std.specs.Prelude.{nat_eq, MatchBool}
+use lib.Pointwise.{pointwise}
+use Rattle.std.specs.Cmp.Lexicographic.{told_text}
 use Rattle.reader.specs.Lists.{tabulate, sum, same_list}
 use Rattle.reader.proofs.Below.{below_next}
 use Rattle.reader.proofs.Bools.{and_l, and_r, and_both, refuted, clash}
@@ -90,6 +94,14 @@ same_all l k e h = rw (ext_get_or 0 l k e h) (same_refl k)
 
 pub same_is : (l k : List ℕ) → l ≡ k → same_list l k ≡ true
 same_is l k e = rw e (same_refl k)
+
+-- the library's test that two slices are equal
+pub same_pointwise : (a b : List ℕ) → pointwise nat_eq a b ≡ same_list b a
+same_pointwise a b = told (pointwise nat_eq a b) (told_text a b _ refl)
+  where
+    told : (r : Bool) → MatchBool r (a ≡ b) (a ≡ b → ⊥) → r ≡ same_list b a
+    told true e = sym (same_is b a (sym e))
+    told false n = sym (not_same b a (λ e. n (sym e)))
 
 pub copy_more :
     (f t : List ℕ) (i : ℕ) → i < length f → i < length t → set (take i f ++ drop i t) i (get_or f i 0) ≡ take (i + 1) f ++ drop (i + 1) t

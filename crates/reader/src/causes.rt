@@ -1,72 +1,75 @@
 // Causes 1 to 8: the header, the leaf lengths and the regions one by one.
 ghost use Rattle.std.specs.Prelude.{◌≡◌, not, ◌++◌, ◌<◌};
-ghost use Rattle.reader.specs.Family.{family_of, leaves, region_count, region, mark};
+ghost use Rattle.reader.specs.Refusals.{verdict};
+ghost use Rattle.reader.specs.Family.{family_of, leaves, region_count, region};
 ghost use Rattle.reader.specs.Nesting.{before};
-ghost use Rattle.reader.specs.Causes.{cause1, cause5, cause6, cause7, cause8, misplaced, first_cause, layout_causes, header_causes, listing_causes};
+ghost use Rattle.reader.specs.Causes.{cause1, cause5, cause6, cause7, cause8, misplaced, first_cause, layout_causes, marked_causes, header_causes, listing_causes};
 ghost use Rattle.reader.specs.Private.InPlace.{Whole};
 ghost use Rattle.reader.specs.Calls.{held};
 
-use crate::bytes::{number_at, same_bytes};
+use crate::bytes::number_at;
 use crate::family::{
     Region, added_lengths, leaf_count, peptide_count, region_count, region_of, region_within,
 };
+use crate::refusal::Refusal;
 
-fn lacks_mark(file: &[u8]) -> bool
-    ensures { result ≡ cause1 mark file.now }
+// Under 16 bytes, or another mark than that at the start.
+fn lacks_mark(file: &[u8], mark: &[u8; 4]) -> bool
+    ensures { result ≡ cause1 mark.now file.now }
 {
-    if file.len() < 16 {
-        return true;
-    }
-    !same_bytes(&file[0..4], b"PHFB")
+    file.len() < 16 || !file.starts_with(mark)
 }
 
-// The first of the causes 1 to 5 that holds, or 0.
-pub(crate) fn header_cause(file: &[u8]) -> u8
-    ensures { result ≡ first_cause (header_causes file.now) }
+// Declines by the first of the causes 1 to 5 that holds, of a file with that mark and its leaf lengths from that byte on.
+pub fn check_header(file: &[u8], mark: &[u8; 4], lengths_at: u16) -> Result<(), Refusal>
+    ensures { verdict result ≡ first_cause (marked_causes mark.now lengths_at file.now) }
 {
-    if lacks_mark(file) {
-        return 1;
+    if lacks_mark(file, mark) {
+        return Err(Refusal::Mark);
     }
-    layout_cause(file, 16)
+    check_layout(file, lengths_at)
 }
 
-// The first of the causes 2 to 5 that holds, or 0, of a file with its leaf lengths from that byte on. The mark is not looked at.
-pub fn layout_cause(file: &[u8], lengths_at: u16) -> u8
-    ensures { result ≡ first_cause (layout_causes lengths_at file.now) }
+// Declines by the first of the causes 2 to 5 that holds, of a file with its leaf lengths from that byte on.
+fn check_layout(file: &[u8], lengths_at: u16) -> Result<(), Refusal>
+    ensures { verdict result ≡ first_cause (layout_causes lengths_at file.now) }
 {
     let m = number_at(file, 4);
     let n = number_at(file, 6);
     let k = number_at(file, 8);
     if m == 0 {
-        return 2;
+        return Err(Refusal::PeptideCount);
     }
     if 4096 < m {
-        return 2;
+        return Err(Refusal::PeptideCount);
     }
     if n == 0 {
-        return 3;
+        return Err(Refusal::LeafCount);
     }
     if 4096 < n {
-        return 3;
+        return Err(Refusal::LeafCount);
     }
     if 2 * n - 1 < k {
-        return 4;
+        return Err(Refusal::RegionCount);
     }
-    if bad_layout(file, lengths_at) { 5 } else { 0 }
+    if bad_layout(file, lengths_at) {
+        return Err(Refusal::Layout);
+    }
+    Ok(())
 }
 
-// The first of the causes 1 to 7 that holds, or 0: what a family file has to have before its regions are held against each other.
-pub fn listing_cause(file: &[u8]) -> u8
-    ensures { result ≡ first_cause (header_causes file.now ++ listing_causes (family_of file.now)) }
+// Declines by the first of the causes 1 to 7 that holds: what a family file has to have before its regions are held against each other.
+pub fn check_listing(file: &[u8]) -> Result<(), Refusal>
+    ensures { verdict result ≡ first_cause (header_causes file.now ++ listing_causes (family_of file.now)) }
 {
-    let header = header_cause(file);
-    if header != 0 {
-        return header;
-    }
+    check_header(file, b"PHFB", 16)?;
     if bad_lengths(file) {
-        return 6;
+        return Err(Refusal::LeafLengths);
     }
-    if misplaced_region(file) { 7 } else { 0 }
+    if misplaced_region(file) {
+        return Err(Refusal::Misplaced);
+    }
+    Ok(())
 }
 
 // An offset or the total not as laid down, or the given length not the total.
@@ -88,7 +91,7 @@ fn bad_layout(file: &[u8], lengths_at: u16) -> bool
 }
 
 // The leaf lengths do not add to m.
-pub(crate) fn bad_lengths(file: &[u8]) -> bool
+fn bad_lengths(file: &[u8]) -> bool
     requires { Whole file.now }
     ensures { result ≡ cause6 (family_of file.now) }
 {
@@ -97,7 +100,7 @@ pub(crate) fn bad_lengths(file: &[u8]) -> bool
 }
 
 // First leaf 0, last below first, or last over N, of some region.
-pub(crate) fn misplaced_region(file: &[u8]) -> bool
+fn misplaced_region(file: &[u8]) -> bool
     requires { Whole file.now }
     ensures { result ≡ cause7 (family_of file.now) }
 {

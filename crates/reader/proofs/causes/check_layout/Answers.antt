@@ -7,8 +7,8 @@ use Rattle.reader.specs.Causes.{cause2, cause3, cause4}
 use Rattle.reader.proofs.Bools.{passes}
 use Rattle.reader.proofs.Parsed.{peptides_read, leaves_read, regions_read}
 use Rattle.reader.proofs.Judged.{peptides_counted, from_peptides_counted, leaves_counted, from_leaves_counted, regions_counted, from_regions_counted, layout_2, layout_3, layout_5}
-use Rattle.reader.proofs.causes.layout_cause.Goals as goal
-use Rattle.reader.proofs.causes.layout_cause.Goals.{Else-m-gt4096, Else-n-gt4096, Else-n-k}
+use Rattle.reader.proofs.causes.check_layout.Goals as goal
+use Rattle.reader.proofs.causes.check_layout.Goals.{Else-m-gt4096, Else-n-gt4096, Else-n-k}
 
 no2 : (c : Else-m-gt4096) → cause2 (family_of c.args.file.now).peptides ≡ false
 no2 c = let s = c.args.file.now in from_peptides_counted (family_of s).peptides (omega (arith, peptides_read s)) (omega (arith, peptides_read s))
@@ -52,7 +52,7 @@ returns-then-bad_layout c =
     let s = c.args.file.now in
     sym (layout_5 _ s (no2 (goal.at.returns-then-bad_layout c).Else-m-gt4096) (no3 (goal.at.returns-then-bad_layout c).Else-n-gt4096) ∙ rw (no4 (goal.at.returns-then-bad_layout c).Else-n-k, ← c.bad_layout.ensures, c.if-bad_layout.true))
 
-pub returns-else-bad_layout : goal.returns-else-bad_layout
-returns-else-bad_layout c =
+pub returns : goal.returns
+returns c =
     let s = c.args.file.now in
-    sym (layout_5 _ s (no2 (goal.at.returns-else-bad_layout c).Else-m-gt4096) (no3 (goal.at.returns-else-bad_layout c).Else-n-gt4096) ∙ rw (no4 (goal.at.returns-else-bad_layout c).Else-n-k, ← c.bad_layout.ensures, c.if-bad_layout.false))
+    sym (layout_5 _ s (no2 (goal.at.returns c).Else-m-gt4096) (no3 (goal.at.returns c).Else-n-gt4096) ∙ rw (no4 (goal.at.returns c).Else-n-k, ← c.bad_layout.ensures, c.if-bad_layout.false))
