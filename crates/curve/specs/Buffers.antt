@@ -1,6 +1,5 @@
 -- The buffers of the program: how much of each file is read, and how long the text can be.
-use Rattle.std.specs.Prelude.{ℕ, ◌+◌, ◌*◌, ◌≡◌, List, length}
-use Rattle.std.specs.Counts.{IsPrefixLen}
+use Rattle.std.specs.Prelude.{ℕ, ◌+◌, ◌*◌}
 
 -- the first 57,355 bytes of family.phf are read: one more than the header, 4,096 leaves and 8,191 regions have
 abbrev pub family_room : ℕ
@@ -13,8 +12,3 @@ path_room = 2 * 4096 + 2
 -- the heading and 4,097 lines: four numbers of at most five digits, and a byte after each
 abbrev pub text_room : ℕ
 text_room = 21 + 24 * 4097
-
--- n bytes at the start of a buffer of that length
-pub record Held (room : ℕ) (buffer : List ℕ) (n : ℕ) : Type 0 where
-  pub long : length buffer ≡ room
-  pub counts : IsPrefixLen n buffer

@@ -2,6 +2,7 @@
 // Everything between the bytes read and the bytes written is `render`, whose promise says which bytes they are.
 #![tactic(auto)]
 
+mod buffer;
 mod input;
 mod output;
 mod text;
@@ -10,5 +11,5 @@ use input::{read_family, read_path};
 use output::{print, render};
 
 fn main(rt: HostRuntime) {
-    print(&rt, render(read_family(&rt), read_path(&rt)));
+    print(&rt, &render(&read_family(&rt), &read_path(&rt)));
 }

@@ -1,119 +1,59 @@
-// The program's text, appended piece by piece to a buffer. Each function returns where the text now ends.
-ghost use Rattle.std.specs.Prelude.{[], ◌∷◌, ◌+◌, ◌*◌, ◌≤◌, ◌<◌, length};
-ghost use Rattle.curve.specs.Text.{digit_at, decimal, field_of, line_of, rows, row_at, table_of, refusal};
-ghost use Rattle.curve.specs.Private.Appends.{Appends, Rows};
+// The program's text, written piece by piece.
+ghost use Rattle.std.specs.Prelude.{◌≡◌, ◌+◌, ◌++◌, ◌≤◌, length};
+ghost use Rattle.curve.specs.Text.{field_of, line_of, table_of, refusal};
+ghost use Rattle.curve.specs.Buffers.{text_room};
 
+use crate::buffer::Buffer;
 use reader::family::Peptide;
 
-fn put_byte(out: &mut [u8], at: usize, b: u8) -> usize
-    requires { at < length out.old }
-    ensures { Appends out.old at out.new result (b ∷ []) }
-{
-    out[at] = b;
-    at + 1
-}
+// The heading has 21 bytes, and each of at most 4,097 lines four numbers of at most 5 digits with a byte after each:
+// 21 + 24 * 4,097.
+pub(crate) const TEXT_ROOM: usize = 98349;
 
-fn put_bytes(out: &mut [u8], at: usize, bytes: &[u8]) -> usize
-    requires { at + length bytes.now ≤ length out.old }
-    ensures { Appends out.old at out.new result bytes.now }
-{
-    let mut i = 0;
-    while i < bytes.len() {
-        out[at + i] = bytes[i];
-        i += 1;
-    }
-    at + i
-}
-
-// The digit of n at a place, if n has one there.
-fn put_digit(out: &mut [u8], at: usize, n: u16, place: u16) -> usize
-    requires at_in_bounds { at < length out.old }
-    requires place_nonzero { 0 < place }
-    ensures { Appends out.old at out.new result (digit_at place n) }
-{
-    if place <= n {
-        put_byte(out, at, 48 + ((n / place % 10) as u8))
-    } else {
-        at
-    }
-}
-
-fn put_number(out: &mut [u8], at: usize, n: u16) -> usize
-    requires { at + 5 ≤ length out.old }
-    ensures { Appends out.old at out.new result (decimal n) }
-{
-    let a = put_digit(out, at, n, 10000);
-    let b = put_digit(out, a, n, 1000);
-    let c = put_digit(out, b, n, 100);
-    let d = put_digit(out, c, n, 10);
-    put_byte(out, d, 48 + ((n % 10) as u8))
-}
+// What the program prints.
+pub(crate) type Text = Buffer<TEXT_ROOM>;
 
 // A number and the byte after it.
-fn put_field(out: &mut [u8], at: usize, n: u16, after: u8) -> usize
-    requires { at + 6 ≤ length out.old }
-    ensures { Appends out.old at out.new result (field_of n after) }
+fn put_field(text: &mut Text, n: u16, after: u8)
+    requires { length text.old + 6 ≤ text_room }
+    ensures { text.new ≡ text.old ++ field_of n after }
 {
-    let end = put_number(out, at, n);
-    put_byte(out, end, after)
+    let mut digits = itoa::Buffer::new();
+    text.extend(digits.format(n).as_bytes());
+    text.extend(&[after]);
 }
 
-fn put_line(out: &mut [u8], at: usize, t: u16, peptide: Peptide, value: u16, mark: u16) -> usize
-    requires { at + 24 ≤ length out.old }
-    ensures { Appends out.old at out.new result (line_of t peptide.0 value mark) }
+fn put_line(text: &mut Text, t: u16, peptide: Peptide, value: u16, mark: u8)
+    requires { length text.old + 24 ≤ text_room }
+    ensures { text.new ≡ text.old ++ line_of t peptide.0 value mark }
 {
-    let p = peptide.0;
-    let a = put_field(out, at, t, b' ');
-    let b = put_field(out, a, p, b' ');
-    let c = put_field(out, b, value, b' ');
-    put_field(out, c, mark, b'\n')
-}
-
-// The line of t.
-fn put_row(out: &mut [u8], at: usize, t: usize, path: &[u16], values: &[u16], marks: &[u8]) -> usize
-    requires rows { Rows path.now values.now marks.now }
-    requires t_in_bounds { t ≤ length path.now }
-    requires at_in_bounds { at + 24 ≤ length out.old }
-    ensures { Appends out.old at out.new result (row_at path.now values.now marks.now t) }
-{
-    if t == 0 {
-        put_line(out, at, 0, Peptide(0), values[0], 0)
-    } else {
-        let peptide = Peptide(path[t - 1]);
-        put_line(out, at, t as u16, peptide, values[t], marks[t - 1] as u16)
-    }
-}
-
-// The lines of t from 0 to the path's length.
-fn put_rows(out: &mut [u8], at: usize, path: &[u16], values: &[u16], marks: &[u8]) -> usize
-    requires rows { Rows path.now values.now marks.now }
-    requires path_in_bounds { at + 24 * (length path.now + 1) ≤ length out.old }
-    ensures { Appends out.old at out.new result (rows (length path.now + 1) (row_at path.now values.now marks.now)) }
-{
-    let mut end = at;
-    let mut t = 0;
-    while t <= path.len() {
-        end = put_row(out, end, t, path, values, marks);
-        t += 1;
-    }
-    end
+    put_field(text, t, b' ');
+    put_field(text, peptide.0, b' ');
+    put_field(text, value, b' ');
+    put_field(text, u16::from(mark), b'\n');
 }
 
 // The heading, and a line for each t from 0 to the path's length.
-pub(crate) fn put_table(out: &mut [u8], path: &[u16], values: &[u16], marks: &[u8]) -> usize
-    requires rows { Rows path.now values.now marks.now }
-    requires path_in_bounds { 21 + 24 * (length path.now + 1) ≤ length out.old }
-    ensures { Appends out.old 0 out.new result (table_of path.now values.now marks.now) }
+pub(crate) fn table_text(path: &[u16], values: &[u16; 4097], marks: &[u8; 4096]) -> Text
+    requires { length path.now ≤ 4096 }
+    ensures { result ≡ table_of path.now values.now marks.now }
 {
-    let start = put_bytes(out, 0, b"t peptide bound mark\n");
-    put_rows(out, start, path, values, marks)
+    let mut text = Buffer::new();
+    text.extend(b"t peptide bound mark\n");
+    put_line(&mut text, 0, Peptide(0), values[0], 0);
+    for (i, number) in path.iter().enumerate() {
+        let t = i + 1;
+        put_line(&mut text, t as u16, Peptide(*number), values[t], marks[i]);
+    }
+    text
 }
 
 // One line with the number of a refusal.
-pub(crate) fn put_refusal(out: &mut [u8], number: u16) -> usize
-    requires { 14 ≤ length out.old }
-    ensures { Appends out.old 0 out.new result (refusal number) }
+pub(crate) fn refusal_text(number: u16) -> Text
+    ensures { result ≡ refusal number }
 {
-    let start = put_bytes(out, 0, b"refused ");
-    put_field(out, start, number, b'\n')
+    let mut text = Buffer::new();
+    text.extend(b"refused ");
+    put_field(&mut text, number, b'\n');
+    text
 }

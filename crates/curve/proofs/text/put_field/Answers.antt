@@ -1,14 +1,11 @@
--- The number, then the byte.
+-- The digits, then the byte.
 use native.Mathlib.Omega.{arith}
+use mathlib.Core.List.{append_assoc}
 use Rattle.curve.specs.Text.{field_of}
-use Rattle.curve.proofs.Appending.{appends_then, decimal_short}
+use Rattle.curve.proofs.Pieces.{printed}
 use Rattle.curve.proofs.text.put_field.Goals as goal
-
-pub put_byte-requires : goal.put_byte-requires
-put_byte-requires c =
-    omega (arith, c.requires, c.put_number-end.ensures.ends, c.put_number-end.auto.out, decimal_short c.args.n)
 
 pub returns : goal.returns
 unfolding field_of
 returns c =
-    appends_then c.put_number-end.ensures c.put_byte.ensures
+    rw (c.extend-2.ensures, c.extend.ensures, c.as_bytes.ensures.value, c.format.ensures.text, printed c.args.n (omega arith)) (simp append_assoc)

@@ -1,7 +1,7 @@
 -- Only an error is a failure.
 use Rattle.std.proofs.Common.{rules}
 use Rattle.curve.specs.Private.Reading.{counted}
-use Rattle.curve.proofs.input.ending.Goals as goal
+use Rattle.curve.proofs.buffer.ending.Goals as goal
 
 pub returns-then-is_err : goal.returns-then-is_err
 unfolding counted

@@ -1,10 +1,9 @@
 -- No more bytes count than were read.
-use Rattle.std.proofs.Common.{arith, sym, ◌≤◌, length, ℕ, ◌-◌}
+use Rattle.std.proofs.Common.{arith, ◌≤◌, length, ℕ, ◌-◌}
 use Rattle.std.specs.Prelude.{Result, Ok, Err}
-use Rattle.std.proofs.lemmas.List.{length-take-le}
 use borrow.Rule.Slice.PartMut.{put_mid, same_len_mid}
 use Rattle.curve.specs.Private.Reading.{counted}
-use Rattle.curve.proofs.input.read_all.Goals as goal
+use Rattle.curve.proofs.buffer.read_all.Goals as goal
 
 few : {E : Type 0} (done : ℕ) (got : Result ℕ E) → counted done got ≤ done
 unfolding counted
@@ -17,4 +16,4 @@ returns-in_default g c =
     let less : c.ending.result ≤ l.done = rw c.ending.ensures (few _ _) in
     let kept = same_len_mid l.done (length l.bytes - l.done) l.bytes c.read.new.buf c.read.auto.buf in
     let fits : c.ending.result ≤ length (put_mid l.done (length l.bytes - l.done) l.bytes c.read.new.buf) = omega (arith, less, kept, l.invariant) in
-    (fits, sym (length-take-le _ _ fits))
+    fits
