@@ -10,7 +10,7 @@
 --   not_same          it fails for lists that are not equal
 --   same_all          it passes for lists of one length that agree at every place
 --   same_is           it passes for equal lists
---   same_pointwise    it is the library's test that two slices are equal
+--   pointwise_same    it is the library's test that two slices are equal, and so is it with the lists the other way round (pointwise_swap)
 --   copy_more         a copy of the front of one list into another, one element further
 --   tabulate_more     `tabulate` with one element more
 --   write_none        a list that is written from the start with f 0, f 1, ..: before the first
@@ -35,7 +35,7 @@ use lib.Pointwise.{pointwise}
 use Rattle.std.specs.Cmp.Lexicographic.{told_text}
 use Rattle.reader.specs.Lists.{tabulate, sum, same_list}
 use Rattle.reader.proofs.Below.{below_next}
-use Rattle.reader.proofs.Bools.{and_l, and_r, and_both, refuted, clash}
+use Rattle.reader.proofs.Bools.{and_l, and_r, and_both, refuted, clash, both_ways}
 
 module _ {A : Type 0} where
   pub length_tabulate : (n : ℕ) (f : ℕ → A) → length (tabulate n f) ≡ n
@@ -96,12 +96,19 @@ pub same_is : (l k : List ℕ) → l ≡ k → same_list l k ≡ true
 same_is l k e = rw e (same_refl k)
 
 -- the library's test that two slices are equal
-pub same_pointwise : (a b : List ℕ) → pointwise nat_eq a b ≡ same_list b a
-same_pointwise a b = told (pointwise nat_eq a b) (told_text a b _ refl)
+pub pointwise_same : (a b : List ℕ) → pointwise nat_eq a b ≡ same_list a b
+pointwise_same a b = told (pointwise nat_eq a b) (told_text a b _ refl)
   where
-    told : (r : Bool) → MatchBool r (a ≡ b) (a ≡ b → ⊥) → r ≡ same_list b a
-    told true e = sym (same_is b a (sym e))
-    told false n = sym (not_same b a (λ e. n (sym e)))
+    told : (r : Bool) → MatchBool r (a ≡ b) (a ≡ b → ⊥) → r ≡ same_list a b
+    told true e = sym (same_is a b e)
+    told false n = sym (not_same a b n)
+
+-- either list may come first
+same_swap : (a b : List ℕ) → same_list a b ≡ same_list b a
+same_swap a b = both_ways (same_list a b) (same_list b a) (λ t. same_is b a (sym (same_equal a b t))) (λ t. same_is a b (sym (same_equal b a t)))
+
+pub pointwise_swap : (a b : List ℕ) → pointwise nat_eq a b ≡ same_list b a
+pointwise_swap a b = pointwise_same a b ∙ same_swap a b
 
 pub copy_more :
     (f t : List ℕ) (i : ℕ) → i < length f → i < length t → set (take i f ++ drop i t) i (get_or f i 0) ≡ take (i + 1) f ++ drop (i + 1) t

@@ -7,8 +7,9 @@ pub mod causes;
 pub mod family;
 mod nesting;
 pub mod refusal;
+mod whole;
 
-ghost use Rattle.std.specs.Prelude.{◌≡◌, ◌++◌, ◌≤◌, length, take, drop};
+ghost use Rattle.std.specs.Prelude.{◌≡◌};
 ghost use Rattle.reader.specs.Family.{family_of};
 ghost use Rattle.reader.specs.Refusals.{verdict};
 ghost use Rattle.reader.specs.Private.Climb.{Listed, ArrangementJudged, Judged};
@@ -18,6 +19,7 @@ use causes::{check_listing, misordered_region};
 use family::{leaf_count, peptide_count, region_count};
 use nesting::{fill_parents, too_deep};
 use refusal::Refusal;
+use whole::WholeFile;
 
 // m, N and K of an accepted family.
 #[derive(Clone, Copy, PartialEq, Eq)]
@@ -28,10 +30,9 @@ pub struct Sizes {
 }
 
 // Declines by the first of the causes 8 to 10 that holds, or the parents are written.
-fn check_arrangement(file: &[u8], parents: &mut [u16]) -> Result<(), Refusal>
-    requires in_bounds { 8191 ≤ length parents.old }
-    requires listed { Listed file.now }
-    ensures { ArrangementJudged (family_of file.now) parents.new (verdict result) }
+fn check_arrangement(file: WholeFile, parents: &mut [u16; 8191]) -> Result<(), Refusal>
+    requires { Listed file.bytes.now }
+    ensures { ArrangementJudged (family_of file.entry.bytes.now) parents.new (verdict result) }
 {
     if misordered_region(file) {
         return Err(Refusal::Misordered);
@@ -46,12 +47,11 @@ fn check_arrangement(file: &[u8], parents: &mut [u16]) -> Result<(), Refusal>
 }
 
 // Declines by the first of the causes 1 to 10 that holds, or the parents are written.
-fn judge(file: &[u8], parents: &mut [u16]) -> Result<(), Refusal>
-    requires { 8191 ≤ length parents.old }
+fn judge(file: &[u8], parents: &mut [u16; 8191]) -> Result<(), Refusal>
     ensures { Judged file.now parents.new (verdict result) }
 {
     check_listing(file)?;
-    check_arrangement(file, parents)
+    check_arrangement(WholeFile { bytes: file }, parents)
 }
 
 // m, N and K, as the header has them.
@@ -87,19 +87,6 @@ pub fn regions<'a>(file: &'a [u8]) -> &'a [u8]
     }
 }
 
-// Copies the first n numbers.
-fn copy_front(from: &[u16], n: usize, to: &mut [u16])
-    requires n_in_bounds { n ≤ length from.now }
-    requires n_in_bounds_2 { n ≤ length to.old }
-    ensures { to.new ≡ take n from.now ++ drop n to.old }
-{
-    let mut i = 0;
-    while i < n {
-        to[i] = from[i];
-        i += 1;
-    }
-}
-
 // The check, and the parent of each region of an accepted family: the number, from 1, of the region just around it,
 // or 0. They are written from the start of the lent slice, which must have room for K of them. A declined call writes nothing.
 pub fn parents(file: &[u8], out: &mut [u16]) -> Result<Sizes, Refusal>
@@ -112,6 +99,6 @@ pub fn parents(file: &[u8], out: &mut [u16]) -> Result<Sizes, Refusal>
     if out.len() < n {
         return Err(Refusal::Room);
     }
-    copy_front(&found, n, out);
+    out[..n].copy_from_slice(&found[..n]);
     Ok(counts(file))
 }

@@ -5,7 +5,7 @@ use Rattle.reader.specs.Causes.{first_cause, header_causes, listing_causes}
 use Rattle.reader.specs.Private.Climb.{Judged}
 use Rattle.reader.specs.Refusals.{verdict}
 use Rattle.reader.proofs.Refusals.{number_some, some_holds, handed_on}
-use Rattle.reader.proofs.Accepting.{file_listing, file_arrangement}
+use Rattle.reader.proofs.Accepting.{listed_header, header_whole, file_listing, file_arrangement}
 use Rattle.reader.proofs.judge.Goals as goal
 
 pub returns-in_err-check_listing : goal.returns-in_err-check_listing
@@ -16,8 +16,11 @@ returns-in_err-check_listing c =
     rw (handed_on c.from_residual.result refusal c.from_residual.ensures.1)
     (record { tested = first ∙ sym (file_listing s (some_holds refusal _ first)); parents = λ e. absurd (number_some refusal e) })
 
+pub invariant_of-check_arrangement : goal.invariant_of-check_arrangement
+invariant_of-check_arrangement c = record { whole = header_whole _ (listed_header _ (sym c.in_ok-check_listing.ensures)) }
+
 pub check_arrangement-requires : goal.check_arrangement-requires
-check_arrangement-requires c = record { in_bounds = c.requires; listed = sym c.in_ok-check_listing.ensures }
+check_arrangement-requires c = sym c.in_ok-check_listing.ensures
 
 pub returns : goal.returns
 returns c =

@@ -27,17 +27,13 @@ returns-in_err-check_header c =
     let first : number_of refusal ≡ first_cause (header_causes s) = c.in_err-check_header.ensures in
     hands_on c.from_residual.result refusal _ c.from_residual.ensures.1 (first_of refusal (header_causes s) first (listing_causes (family_of s)))
 
-pub bad_lengths-requires : goal.bad_lengths-requires
-bad_lengths-requires c =
-    header_whole _ (clear (goal.at.bad_lengths-requires c).In_ok-check_header)
+-- the file has all that its header counts
+pub invariant_of-whole : goal.invariant_of-whole
+invariant_of-whole c = record { whole = header_whole _ (clear (goal.at.invariant_of-whole c).In_ok-check_header) }
 
 pub returns-then-bad_lengths : goal.returns-then-bad_lengths
 returns-then-bad_lengths c =
     sym (after-header (goal.at.returns-then-bad_lengths c).In_ok-check_header ∙ listing_6 _ (sym c.bad_lengths.ensures ∙ c.if-bad_lengths.true))
-
-pub misplaced_region-requires : goal.misplaced_region-requires
-misplaced_region-requires c =
-    header_whole _ (clear (goal.at.misplaced_region-requires c).In_ok-check_header)
 
 pub returns-then-misplaced_region : goal.returns-then-misplaced_region
 returns-then-misplaced_region c =

@@ -5,7 +5,7 @@ use mathlib.Core.Path.{sym, ap, ◌∙◌}
 use lib.ListN.{length, take}
 use borrow.Author.Tests.{lt-ltb, le-ltb}
 use Rattle.reader.specs.Causes.{cause1}
-use Rattle.reader.proofs.Lists.{same_pointwise}
+use Rattle.reader.proofs.Lists.{pointwise_swap}
 use Rattle.reader.proofs.Judged.{marked_so}
 use Rattle.reader.proofs.causes.lacks_mark.Goals as goal
 
@@ -16,4 +16,4 @@ returns-then-file-lt16 c = rw (lt-ltb (length c.args.file.now) 16 c.if-file-lt16
 pub returns-else-file-lt16 : goal.returns-else-file-lt16
 returns-else-file-lt16 c =
     let s = c.args.file.now in
-    ap not (rw c.told-mark at c.starts_with.ensures.value ∙ same_pointwise c.args.mark.now (take 4 s)) ∙ sym (marked_so c.args.mark.now s c.if-file-lt16.false)
+    ap not (rw c.told-mark at c.starts_with.ensures.value ∙ pointwise_swap c.args.mark.now (take 4 s)) ∙ sym (marked_so c.args.mark.now s c.if-file-lt16.false)
