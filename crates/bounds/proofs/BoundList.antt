@@ -8,6 +8,7 @@ use mathlib.Core.Path.{◌≡◌, sym, ap, ◌∙◌}
 use native.Mathlib.Omega.{arith}
 use lib.ListN.{length, get_or, drop, length-append, length-drop, get_or-append}
 use lib.Seq.{drop_at}
+use Rattle.std.specs.Prelude.{Ok}
 use Rattle.reader.specs.Family.{Family, family_of, region_count}
 use Rattle.reader.specs.Causes.{Cause, first_cause, AcceptedFile}
 use Rattle.reader.proofs.Lists.{get_d_tabulate, length_tabulate}
@@ -16,9 +17,7 @@ use Rattle.bounds.specs.Bound.{IsLargest}
 use Rattle.bounds.specs.Selections.{selected, bound_of, cause14}
 use Rattle.bounds.specs.SelectionLists.{selection_at, list_bounds, list_cause14, EachOf}
 use Rattle.bounds.specs.Tally.{charge_of, added, cause25}
-use Rattle.bounds.specs.declared.Bounded.TheVariants as bounded
-use Rattle.bounds.specs.declared.Listed.{Listed}
-use Rattle.bounds.specs.Calls.{list_causes, charged, listed}
+use Rattle.bounds.specs.Calls.{ListReport, report_list, list_causes, charged, listed}
 use Rattle.bounds.specs.AcceptedCalls.{BoundCall, ListCall, AnyListCall}
 use Rattle.bounds.proofs.Theory.Theorems.{bound_is_largest}
 use Rattle.bounds.proofs.Calls.Selecting.{right_length}
@@ -33,12 +32,12 @@ selection_of f c i = selection_at (peptides_in f) c.selections i
 pub record BoundList : Type 0 where
   -- For an accepted family, at most 32 selections for which cause 14 does not hold, room for as many values and for the charge on the
   -- tally, `bound_list` declines nothing.
-  pub answered : (f : AcceptedFile) (c : ListCall f) → c.answer.number ≡ 0
+  pub answered : (f : AcceptedFile) (c : ListCall f) → (report_list c.answer).number ≡ 0
   -- Then cause 14 holds for none of the selections alone,
   pub alone_accepted : (f : AcceptedFile) (c : ListCall f) (i : ℕ) → i < c.count → cause14 (peptides_in f) (selection_of f c i) ≡ false
   -- and value i is the bound that `bound` answers of selection i alone:
   pub value_alone : (f : AcceptedFile) (c : ListCall f) (i : ℕ) → i < c.count → (b : BoundCall f) → b.selection ≡ selection_of f c i
-      → b.answer ≡ bounded.Bound (get_or c.values i 0)
+      → b.answer ≡ Ok (get_or c.values i 0)
   -- the largest count of selection i in any admissible set, formula (3).
   pub value_largest : (f : AcceptedFile) (c : ListCall f) (i : ℕ) → i < c.count
       → IsLargest (peptides_in f) (ranges_in f) (selected (selection_of f c i)) (get_or c.values i 0)
@@ -58,26 +57,26 @@ pub record BoundList : Type 0 where
       → list_cause14 (peptides_in f) (flatten L) (length L) ≡ false
   -- if it holds for one selection of a list, the whole list is declined with it.
   pub one_declines : (f : AcceptedFile) (c : AnyListCall) → c.file ≡ f.file → (i : ℕ) → i < c.count
-      → cause14 (peptides_in f) (selection_at (peptides_in f) c.selections i) ≡ true → c.answer.number ≡ 14
+      → cause14 (peptides_in f) (selection_at (peptides_in f) c.selections i) ≡ true → (report_list c.answer).number ≡ 14
   -- So is one whose buffer has not count times m bytes: a list of no selection with any byte, too.
   pub wrong_length : (f : AcceptedFile) (c : AnyListCall) → c.file ≡ f.file → (length c.selections ≡ c.count * peptides_in f → ⊥)
-      → c.answer.number ≡ 14
+      → (report_list c.answer).number ≡ 14
   -- What the lent list holds from place count on stays as it was, and so does its length.
   pub rest : (f : AcceptedFile) (c : ListCall f) → drop c.count c.values ≡ drop c.count c.old_values
   pub same_length : (f : AcceptedFile) (c : ListCall f) → length c.values ≡ length c.old_values
   -- The charge is K, however many selections the list has; an empty one is free.
-  pub charge_some : (f : AcceptedFile) (c : ListCall f) → 1 ≤ c.count → c.answer.charge ≡ region_count (family_of f.file)
-  pub charge_none : (f : AcceptedFile) (c : ListCall f) → c.count ≡ 0 → c.answer.charge ≡ 0
+  pub charge_some : (f : AcceptedFile) (c : ListCall f) → 1 ≤ c.count → (report_list c.answer).charge ≡ region_count (family_of f.file)
+  pub charge_none : (f : AcceptedFile) (c : ListCall f) → c.count ≡ 0 → (report_list c.answer).charge ≡ 0
   -- Where K is 0 or the list is empty, cause 25 does not hold even of a full tally.
   pub no_region_fits : (count tally : ℕ) → tally ≤ 4294967295 → cause25 tally (charge_of 0 count) ≡ false
   pub no_selection_fits : (K tally : ℕ) → tally ≤ 4294967295 → cause25 tally (charge_of K 0) ≡ false
   -- After any call the tally is the one before it and the charge,
-  pub tally_grows : (c : AnyListCall) → c.answer.tally ≡ c.tally + c.answer.charge
+  pub tally_grows : (c : AnyListCall) → c.answer.tally ≡ c.tally + (report_list c.answer).charge
   -- and it is at most 4,294,967,295 if that one is, as every number of 32 bits is.
   pub tally_fits : (c : AnyListCall) → c.tally ≤ 4294967295 → c.answer.tally ≤ 4294967295
   -- A declined call charges nothing, and leaves the tally and the lent list as they were.
-  pub declined_free : (c : AnyListCall) → (c.answer.number ≡ 0 → ⊥)
-      → (c.answer.charge ≡ 0) × (c.answer.tally ≡ c.tally) × (c.values ≡ c.old_values)
+  pub declined_free : (c : AnyListCall) → ((report_list c.answer).number ≡ 0 → ⊥)
+      → ((report_list c.answer).charge ≡ 0) × (c.answer.tally ≡ c.tally) × (c.values ≡ c.old_values)
 
 -- Any call.
 
@@ -89,23 +88,23 @@ module _ (c : AnyListCall) where
   the_charge = charge_of (region_count (family_of c.file)) c.count
 
   -- the fields of the answer
-  number_is : c.answer.number ≡ first_cause causes
+  number_is : (report_list c.answer).number ≡ first_cause causes
   unfolding listed
-  number_is = ap (λ (r : Listed). r.number) c.answers
+  number_is = ap (λ (r : ListReport). r.number) c.answers
 
-  charge_is : c.answer.charge ≡ charged causes the_charge
+  charge_is : (report_list c.answer).charge ≡ charged causes the_charge
   unfolding listed
-  charge_is = ap (λ (r : Listed). r.charge) c.answers
+  charge_is = ap (λ (r : ListReport). r.charge) c.answers
 
-  fourteen : (f : AcceptedFile) → c.file ≡ f.file → list_cause14 (peptides_in f) c.selections c.count ≡ true → c.answer.number ≡ 14
+  fourteen : (f : AcceptedFile) → c.file ≡ f.file → list_cause14 (peptides_in f) c.selections c.count ≡ true → (report_list c.answer).number ≡ 14
   fourteen f e h =
       number_is
       ∙ ap (λ (s : List ℕ). first_cause (list_causes s c.selections c.count c.tally (length c.old_values))) e
       ∙ list_declines f.file c.selections c.count c.tally _ f.accepted h
 
-  grows : c.answer.tally ≡ c.tally + c.answer.charge
+  grows : c.answer.tally ≡ c.tally + (report_list c.answer).charge
   unfolding listed added
-  grows = ap (λ (r : Listed). r.tally) c.answers ∙ ap (λ (n : ℕ). c.tally + n) (sym charge_is)
+  grows = ap (λ (r : ListReport). r.tally) c.answers ∙ ap (λ (n : ℕ). c.tally + n) (sym charge_is)
 
   fits : c.tally ≤ 4294967295 → c.answer.tally ≤ 4294967295
   unfolding added
@@ -115,10 +114,10 @@ module _ (c : AnyListCall) where
       (λ some. omega (arith, grows, charge_is, charged_nothing causes the_charge c.tally some))
       (none_or_some causes)
 
-  free : (c.answer.number ≡ 0 → ⊥) → (c.answer.charge ≡ 0) × (c.answer.tally ≡ c.tally) × (c.values ≡ c.old_values)
+  free : ((report_list c.answer).number ≡ 0 → ⊥) → ((report_list c.answer).charge ≡ 0) × (c.answer.tally ≡ c.tally) × (c.values ≡ c.old_values)
   free h =
       let some : first_cause causes ≡ 0 → ⊥ = λ z. h (number_is ∙ z) in
-      let nothing : c.answer.charge ≡ 0 = charge_is ∙ charged_nothing causes the_charge c.tally some in
+      let nothing : (report_list c.answer).charge ≡ 0 = charge_is ∙ charged_nothing causes the_charge c.tally some in
       (nothing, omega (arith, grows), c.writes ∙ leaves_unchanged causes some _ c.old_values)
 
 -- A call with nothing to decline.
@@ -173,7 +172,7 @@ module _ (f : AcceptedFile) (c : ListCall f) where
       ap length written_so
       ∙ omega (arith, many, length-append the_bounds (drop (length the_bounds) c.old_values), length-drop (length the_bounds) c.old_values)
 
-  charge_all : c.answer.charge ≡ charge_of (region_count F) c.count
+  charge_all : (report_list c.answer).charge ≡ charge_of (region_count F) c.count
   charge_all = charge_is any ∙ charged_all (causes any) (the_charge any) c.tally clear
 
 -- Two lists sent as one.
@@ -205,7 +204,7 @@ bound_list =
     record {
       answered = λ f c. number_is (any f c) ∙ clear f c;
       alone_accepted = λ f c i l. each_selection (peptides_in f) c.selections i c.count c.is_list l;
-      value_alone = λ f c i l b e. answers_bound f b ∙ ap bounded.Bound (ap (bound_of (family_of f.file)) e ∙ sym (value_is f c i l));
+      value_alone = λ f c i l b e. answers_bound f b ∙ ap Ok (ap (bound_of (family_of f.file)) e ∙ sym (value_is f c i l));
       value_largest = λ f c i l. rw (value_is f c i l) (bound_is_largest f.file f.bytes f.accepted (selection_of f c i));
       same_value = λ f c d i j l k e. value_is f c i l ∙ ap (bound_of (family_of f.file)) e ∙ sym (value_is f d j k);
       first_values = λ f c d e both n i h. value_first f c d e both i (omega (arith, n)) h;

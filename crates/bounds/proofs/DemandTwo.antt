@@ -10,22 +10,19 @@ use borrow.Author.Tests.{eq-eqb}
 use Rattle.reader.specs.Lists.{some_below}
 use Rattle.reader.specs.Family.{Family, family_of}
 use Rattle.reader.specs.Causes.{first_cause, AcceptedFile}
-use Rattle.reader.specs.Calls.{Report}
+use Rattle.std.specs.Prelude.{Result, Ok, Err}
+use Rattle.reader.specs.declared.refusal.Refusal.{Refusal}
+use Rattle.reader.specs.Refusals.{Report}
 use Rattle.reader.proofs.Bools.{not_fails, clash}
 use Rattle.reader.proofs.Lists.{length_tabulate}
-use Rattle.reader.proofs.First.{answers, writes}
+use Rattle.reader.proofs.First.{writes}
+use Rattle.reader.proofs.Refusals.{number_some, some_holds, learns_ok, learns_err}
 use Rattle.bounds.specs.Ranges.{Range, Peptides, card, ranges_of, those}
 use Rattle.bounds.specs.Bound.{Admissible, IsLargest, is_taken, taken_bytes, taken_by, taken_sum}
 use Rattle.bounds.specs.Selections.{selected, bound_of, taken_of}
 use Rattle.bounds.specs.Curves.{among, entry, curve_values, mark_at, curve_marks, cut_of, IsCut}
 use Rattle.bounds.specs.Paths.{marked}
-use Rattle.bounds.specs.declared.Bounded.{Bounded}
-use Rattle.bounds.specs.declared.Bounded.TheVariants as bounded
-use Rattle.bounds.specs.declared.Curved.{Curved}
-use Rattle.bounds.specs.declared.Curved.TheVariants as curved
-use Rattle.bounds.specs.declared.CutFound.{CutFound}
-use Rattle.bounds.specs.declared.CutFound.TheVariants as cutFound
-use Rattle.bounds.specs.Calls.{report_bound, declined_curve, report_cut, selection_causes, curve_causes, cut_causes, BoundAnswers, CurveDeclines, CutAnswers}
+use Rattle.bounds.specs.Calls.{the_number, selection_causes, curve_causes, cut_causes, BoundAnswers, CurveDeclines, CutAnswers}
 use Rattle.bounds.specs.AcceptedCalls.{CurveCall, CutCall, BoundCall}
 use Rattle.bounds.proofs.Theory.Greedy.{respects_facts}
 use Rattle.bounds.proofs.Theory.Formula.{bound_same}
@@ -53,7 +50,7 @@ Agree f S X = (p : ℕ) → 1 ≤ p → p ≤ peptides_in f → S p ≡ X p
 
 pub record DemandTwo : Type 0 where
   -- For an accepted family, a path and lists with room, `curve` declines nothing.
-  pub curve_answers : (f : AcceptedFile) (c : CurveCall f) → c.answer ≡ curved.Written
+  pub curve_answers : (f : AcceptedFile) (c : CurveCall f) → c.answer ≡ Ok (tt {0})
   -- Value t, as written, is the largest count of the first t peptides in any admissible set, for every t from 0 to T.
   pub value_largest : (f : AcceptedFile) (c : CurveCall f) (t : ℕ) → t ≤ length c.path
       → IsLargest (peptides_in f) (ranges_in f) (among (take t c.path)) (get_or c.values t 0)
@@ -70,17 +67,17 @@ pub record DemandTwo : Type 0 where
   -- Value 0 is 0, so an empty path has the one value 0.
   pub starts_at_zero : (f : AcceptedFile) (c : CurveCall f) → get_or c.values 0 0 ≡ 0
   -- `cut` answers the largest t from 0 to T at which entry t times b is at most a times t.
-  pub cut_largest : (f : AcceptedFile) (c : CutCall f) → (t : ℕ) × (c.answer ≡ cutFound.At t) × IsCut (family_of f.file) c.path c.a c.b t
+  pub cut_largest : (f : AcceptedFile) (c : CutCall f) → (t : ℕ) × (c.answer ≡ Ok t) × IsCut (family_of f.file) c.path c.a c.b t
   -- For an accepted family, a selection and a list with room, `bound` answers a bound,
-  pub bound_answers : (f : AcceptedFile) (b : BoundCall f) → (v : ℕ) × (b.answer ≡ bounded.Bound v)
+  pub bound_answers : (f : AcceptedFile) (b : BoundCall f) → (v : ℕ) × (b.answer ≡ Ok v)
   -- which is the largest count of the selection in any admissible set.
-  pub bound_largest : (f : AcceptedFile) (b : BoundCall f) (v : ℕ) → b.answer ≡ bounded.Bound v
+  pub bound_largest : (f : AcceptedFile) (b : BoundCall f) (v : ℕ) → b.answer ≡ Ok v
       → IsLargest (peptides_in f) (ranges_in f) (selected b.selection) v
   -- Value t of a curve is the bound of the first t peptides: where these are the selected ones, `bound` answers it.
   pub value_is_bound : (f : AcceptedFile) (c : CurveCall f) (b : BoundCall f) (t : ℕ) → t ≤ length c.path
-      → Agree f (selected b.selection) (among (take t c.path)) → b.answer ≡ bounded.Bound (get_or c.values t 0)
+      → Agree f (selected b.selection) (among (take t c.path)) → b.answer ≡ Ok (get_or c.values t 0)
   -- The z of the regions whose written byte is 1, plus the selected peptides in none of them, add up to the bound.
-  pub taken_sum_lem : (f : AcceptedFile) (b : BoundCall f) (v : ℕ) → b.answer ≡ bounded.Bound v
+  pub taken_sum_lem : (f : AcceptedFile) (b : BoundCall f) (v : ℕ) → b.answer ≡ Ok v
       → taken_sum (peptides_in f) (ranges_in f) (selected b.selection) b.taken ≡ v
   -- So no admissible set has more of the selection than this sum.
   pub sum_most : (f : AcceptedFile) (b : BoundCall f) (A : Peptides) → Admissible (peptides_in f) (ranges_in f) A
@@ -107,14 +104,12 @@ module _ (f : AcceptedFile) (c : CurveCall f) where
   clear : first_cause (curve_causes f.file path c.old_values c.old_marks) ≡ 0
   clear = curve_clear f.file path c.old_values c.old_marks f.accepted c.is_path c.values_room c.marks_room
 
-  answers_written : c.answer ≡ curved.Written
-  unfolding declined_curve
+  answers_written : c.answer ≡ Ok (tt {0})
   answers_written = go c.answer c.declines
     where
-      go : (r : Curved) → CurveDeclines f.file path c.old_values c.old_marks r → r ≡ curved.Written
-      go curved.Written d = refl
-      go (curved.Refused n) d = absurd (clash (sym d) (not_fails _ (eq-eqb _ 0 clear)))
-      go (curved.Repeated p) d = absurd (clash (sym d) (not_fails _ (eq-eqb _ 0 clear)))
+      go : (r : Result (Unit {0}) Refusal) → CurveDeclines f.file path c.old_values c.old_marks r → r ≡ Ok (tt {0})
+      go (Ok done) d = refl
+      go (Err e) d = absurd (clash (sym d) (not_fails _ (eq-eqb _ 0 clear)))
 
   -- what it leaves, by places
   pub value_left : (t : ℕ) → t ≤ length path → get_or c.values t 0 ≡ get_or (curve_values F path) t 0
@@ -144,14 +139,12 @@ module _ (f : AcceptedFile) (c : CutCall f) where
   no_cause : first_cause (cut_causes f.file c.path c.a c.b) ≡ 0
   no_cause = cut_clear f.file c.path c.a c.b f.accepted c.is_path c.is_fraction
 
-  answers_cut : c.answer ≡ cutFound.At the_cut
-  unfolding report_cut
+  answers_cut : c.answer ≡ Ok the_cut
   answers_cut = go c.answer c.answers
     where
-      go : (r : CutFound) → CutAnswers f.file c.path c.a c.b r → r ≡ cutFound.At the_cut
-      go (cutFound.At t) p = cc (ap (λ (r : Report). r.values) (p ∙ path_answers _ c.path (the_cut ∷ []) no_cause))
-      go (cutFound.Refused n) p = let e = ap (λ (r : Report). length r.values) (p ∙ path_answers _ c.path (the_cut ∷ []) no_cause) in absurd (omega arith)
-      go (cutFound.Repeated t) p = let e = ap (λ (r : Report). r.number) (p ∙ path_answers _ c.path (the_cut ∷ []) no_cause) in absurd (omega arith)
+      go : (r : Result ℕ Refusal) → CutAnswers f.file c.path c.a c.b r → r ≡ Ok the_cut
+      go (Ok t) p = cc (ap (λ (r : Report). r.values) (p ∙ path_answers _ c.path (the_cut ∷ []) no_cause))
+      go (Err e) p = absurd (number_some e (ap (λ (r : Report). r.number) (p ∙ path_answers _ c.path (the_cut ∷ []) no_cause)))
 
 -- A call of `bound`.
 
@@ -162,15 +155,14 @@ module _ (f : AcceptedFile) (b : BoundCall f) where
   none : first_cause (selection_causes f.file b.selection b.old_taken) ≡ 0
   none = selection_clear f.file b.selection (length b.old_taken) f.accepted b.is_selection b.taken_room
 
-  pub answers_bound : b.answer ≡ bounded.Bound the_bound
-  unfolding report_bound
+  pub answers_bound : b.answer ≡ Ok the_bound
   answers_bound = go b.answer b.answers
     where
-      go : (r : Bounded) → BoundAnswers f.file b.selection b.old_taken r → r ≡ bounded.Bound the_bound
-      go (bounded.Bound n) p = cc (ap (λ (r : Report). r.values) (p ∙ answers _ none (the_bound ∷ [])))
-      go (bounded.Refused n) p = let e = ap (λ (r : Report). length r.values) (p ∙ answers _ none (the_bound ∷ [])) in absurd (omega arith)
+      go : (r : Result ℕ Refusal) → BoundAnswers f.file b.selection b.old_taken r → r ≡ Ok the_bound
+      go (Ok n) p = cc (learns_ok the_number _ _ n p).1
+      go (Err e) p = absurd (some_holds e _ (learns_err the_number _ _ e p).0 none)
 
-  answered : (n : ℕ) → b.answer ≡ bounded.Bound n → n ≡ the_bound
+  answered : (n : ℕ) → b.answer ≡ Ok n → n ≡ the_bound
   answered n e = cc answers_bound
 
   -- the regions whose byte is 1 are those taken
@@ -214,7 +206,7 @@ demand_two =
       cut_largest = λ f c. (the_cut f c, answers_cut f c, cut_theorem f.file f.bytes f.accepted c.path c.is_path c.a c.b);
       bound_answers = λ f b. (the_bound f b, answers_bound f b);
       bound_largest = λ f b n e. rw (answered f b n e) (bound_is_largest f.file f.bytes f.accepted b.selection);
-      value_is_bound = λ f c b t h same. answers_bound f b ∙ ap bounded.Bound (first_bound f b c t h same);
+      value_is_bound = λ f c b t h same. answers_bound f b ∙ ap Ok (first_bound f b c t h same);
       taken_sum_lem = λ f b n e. sum_is f b ∙ sym (answered f b n e);
       sum_most = λ f b. no_more f b.selection b.taken;
       certificate = no_more;

@@ -15,8 +15,7 @@ use Rattle.bounds.specs.Bound.{total_within, total, value, bound}
 use Rattle.bounds.specs.Selections.{selected, bound_of, cause14}
 use Rattle.bounds.specs.SelectionLists.{selection_at, list_bounds, cause24}
 use Rattle.bounds.specs.Tally.{charge_of, added, cause25}
-use Rattle.bounds.specs.declared.Listed.{Listed}
-use Rattle.bounds.specs.Calls.{list_inputs, list_causes, charged, listed}
+use Rattle.bounds.specs.Calls.{ListReport, list_inputs, list_causes, charged, listed}
 
 -- Selections from the eight-peptide family, of leaf lengths 2, 3, 1, 2 and the regions (1,2,3), (1,1,2), (2,2,1), (3,4,3), (4,4,0).
 
@@ -43,14 +42,14 @@ abbrev pub free_file : List ℕ
 free_file = file_of (record { peptides = 1; lengths = 1 ∷ []; regions = [] })
 
 -- what a call answers
-abbrev pub told : List ℕ → List ℕ → ℕ → ℕ → ℕ → Listed
+abbrev pub told : List ℕ → List ℕ → ℕ → ℕ → ℕ → ListReport
 told file selections count tally room =
     listed (list_causes file selections count tally room) (charge_of (region_count (family_of file)) count) tally
 
-abbrev pub answers : ℕ → ℕ → Listed
+abbrev pub answers : ℕ → ℕ → ListReport
 answers charge tally = record { number = 0; charge = charge; tally = tally }
 
-abbrev pub declines : ℕ → ℕ → Listed
+abbrev pub declines : ℕ → ℕ → ListReport
 declines number tally = record { number = number; charge = 0; tally = tally }
 
 -- and what it leaves in the lent list

@@ -1,17 +1,15 @@
 -- Calls of `curve`, `cut`, `bound` and `bound_list` that have nothing to decline: an accepted file, a path, a selection or a list
 -- of them, and room for what is written. Of the answer and of what the call leaves in the lent lists they hold the promises of the
 -- contracts that the theorems need. At the end any call of `bound_list`, declined or not.
-use Rattle.std.specs.Prelude.{ℕ, ◌+◌, ◌≤◌, false, List, ◌≡◌, length}
+use Rattle.std.specs.Prelude.{ℕ, ◌+◌, ◌≤◌, false, List, ◌≡◌, length, Result}
 use Rattle.reader.specs.Family.{family_of, region_count}
 use Rattle.reader.specs.Causes.{AcceptedFile}
+use Rattle.reader.specs.declared.refusal.Refusal.{Refusal}
 use Rattle.bounds.specs.Selections.{cause14}
 use Rattle.bounds.specs.SelectionLists.{list_cause14}
 use Rattle.bounds.specs.Tally.{charge_of, added}
 use Rattle.bounds.specs.Curves.{cause15}
-use Rattle.bounds.specs.declared.Bounded.{Bounded}
 use Rattle.bounds.specs.declared.Listed.{Listed}
-use Rattle.bounds.specs.declared.Curved.{Curved}
-use Rattle.bounds.specs.declared.CutFound.{CutFound}
 use Rattle.bounds.specs.Calls.{IsPath, BoundAnswers, TakenWrites, ListAnswers, ListWrites, CurveValuesWrites, CurveMarksWrites, CurveDeclines, CutAnswers}
 
 -- a call of `curve`
@@ -24,7 +22,7 @@ pub record CurveCall (f : AcceptedFile) : Type 0 where
   pub values_room : length path + 1 ≤ length old_values
   pub marks_room : length path ≤ length old_marks
   -- its answer, and the lists after it
-  pub answer : Curved
+  pub answer : Result (Unit {0}) Refusal
   pub values : List ℕ
   pub marks : List ℕ
   -- its promises
@@ -41,7 +39,7 @@ pub record CutCall (f : AcceptedFile) : Type 0 where
   pub b : ℕ
   pub is_fraction : cause15 a b ≡ false
   -- its answer, and its promise
-  pub answer : CutFound
+  pub answer : Result ℕ Refusal
   pub answers : CutAnswers f.file path a b answer
 
 -- a call of `bound`
@@ -52,7 +50,7 @@ pub record BoundCall (f : AcceptedFile) : Type 0 where
   pub old_taken : List ℕ
   pub taken_room : region_count (family_of f.file) ≤ length old_taken
   -- its answer, and the list after it
-  pub answer : Bounded
+  pub answer : Result ℕ Refusal
   pub taken : List ℕ
   -- its promises
   pub answers : BoundAnswers f.file selection old_taken answer

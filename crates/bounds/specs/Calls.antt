@@ -1,41 +1,38 @@
 -- What the calls of `bounds` answer and write, defined from their inputs.
-use Rattle.std.specs.Prelude.{ℕ, ◌+◌, Bool, true, false, not, cond, ◌||◌, List, [], ◌∷◌, ◌++◌, ◌≡◌, length, eqb}
+use Rattle.std.specs.Prelude.{ℕ, ◌+◌, not, cond, ◌||◌, List, [], ◌∷◌, ◌++◌, ◌≡◌, length, eqb, Result, Ok, Err, is_err}
 use Rattle.reader.specs.Family.{family_of, region_count}
 use Rattle.reader.specs.Causes.{Cause, first_cause, file_causes}
-use Rattle.reader.specs.Calls.{Report, answer, written, short}
+use Rattle.reader.specs.Refusals.{verdict, Report, report}
+use Rattle.reader.specs.Calls.{answer, written, short}
+use Rattle.reader.specs.declared.refusal.Refusal.{Refusal}
 use Rattle.bounds.specs.Selections.{bound_of, taken_of, totals_of, cause14}
 use Rattle.bounds.specs.SelectionLists.{list_bounds, list_cause14, cause24}
 use Rattle.bounds.specs.Tally.{charge_of, added, cause25}
 use Rattle.bounds.specs.Curves.{curve_values, curve_marks, cut_of, cause11, cause12, cause13, first_repeat, cause15}
-use Rattle.bounds.specs.declared.Bounded.{Bounded}
-use Rattle.bounds.specs.declared.Bounded.TheVariants as bounded
 use Rattle.bounds.specs.declared.Listed.{Listed}
-use Rattle.bounds.specs.declared.Curved.{Curved}
-use Rattle.bounds.specs.declared.Curved.TheVariants as curved
-use Rattle.bounds.specs.declared.CutFound.{CutFound}
-use Rattle.bounds.specs.declared.CutFound.TheVariants as cutFound
 
--- The number and the values of each case of an answer.
+-- The values of an answer that is a number, and of one that is nothing but done.
 
-unfoldable pub report_bound : Bounded → Report
-report_bound (bounded.Bound v) = record { number = 0; values = v ∷ [] }
-report_bound (bounded.Refused n) = record { number = n; values = [] }
+abbrev pub the_number : ℕ → List ℕ
+the_number v = v ∷ []
 
-unfoldable pub report_curve : Curved → Report
-report_curve curved.Written = record { number = 0; values = [] }
-report_curve (curved.Refused n) = record { number = n; values = [] }
-report_curve (curved.Repeated p) = record { number = 13; values = p ∷ [] }
+abbrev pub no_values : Unit {0} → List ℕ
+no_values done = []
 
--- whether the answer is a refusal: nothing but the number tells an answer without values from one
-unfoldable pub declined_curve : Curved → Bool
-declined_curve curved.Written = false
-declined_curve (curved.Refused n) = true
-declined_curve (curved.Repeated p) = true
+-- What the answer to a list of selections says: the number of the first cause that holds, 0 for none; what the list is charged, 0 when
+-- declined; and the tally with that charge added.
+pub record ListReport : Type 0 where
+  pub number : ℕ
+  pub charge : ℕ
+  pub tally : ℕ
 
-unfoldable pub report_cut : CutFound → Report
-report_cut (cutFound.At t) = record { number = 0; values = t ∷ [] }
-report_cut (cutFound.Refused n) = record { number = n; values = [] }
-report_cut (cutFound.Repeated p) = record { number = 13; values = p ∷ [] }
+-- what is charged; a refusal charges nothing
+abbrev pub charge_in : Result ℕ Refusal → ℕ
+charge_in (Ok charge) = charge
+charge_in (Err refusal) = 0
+
+abbrev pub report_list : Listed → ListReport
+report_list r = record { number = verdict r.charged; charge = charge_in r.charged; tally = r.tally }
 
 -- The causes of each call, in the order in which they are tried.
 
@@ -102,15 +99,15 @@ unfoldable pub charged : List Cause → ℕ → ℕ
 charged cs charge = cond (eqb (first_cause cs) 0) charge 0
 
 -- Its answer: the number of the first cause that holds, what it is charged, and the tally with that added.
-unfoldable pub listed : List Cause → ℕ → ℕ → Listed
+unfoldable pub listed : List Cause → ℕ → ℕ → ListReport
 listed cs charge tally = record { number = first_cause cs; charge = charged cs charge; tally = added tally (charged cs charge) }
 
 -- What the calls promise. A list that is lent for an output stands for what it held before the call; new is what the call
 -- leaves in it.
 
 -- the answer r of `bound`, and that of `inside_totals`
-abbrev pub BoundAnswers : List ℕ → List ℕ → List ℕ → Bounded → Type 0
-BoundAnswers file selection out r = report_bound r ≡ answer (selection_causes file selection out) (bound_of (family_of file) selection ∷ [])
+abbrev pub BoundAnswers : List ℕ → List ℕ → List ℕ → Result ℕ Refusal → Type 0
+BoundAnswers file selection out r = report the_number r ≡ answer (selection_causes file selection out) (bound_of (family_of file) selection ∷ [])
 
 -- the bytes of `bound`
 abbrev pub TakenWrites : List ℕ → List ℕ → List ℕ → List ℕ → Type 0
@@ -123,7 +120,7 @@ TotalsWrites file selection out new = new ≡ written (selection_causes file sel
 -- the answer r of `bound_list`
 abbrev pub ListAnswers : List ℕ → List ℕ → ℕ → ℕ → List ℕ → Listed → Type 0
 ListAnswers file selections count tally values r =
-    r ≡ listed (list_causes file selections count tally (length values)) (charge_of (region_count (family_of file)) count) tally
+    report_list r ≡ listed (list_causes file selections count tally (length values)) (charge_of (region_count (family_of file)) count) tally
 
 -- its values
 abbrev pub ListWrites : List ℕ → List ℕ → ℕ → ℕ → List ℕ → List ℕ → Type 0
@@ -131,8 +128,8 @@ ListWrites file selections count tally values new =
     new ≡ written (list_causes file selections count tally (length values)) (list_bounds (family_of file) selections count) values
 
 -- the answer r of `curve`, its values and its marks
-abbrev pub CurveAnswers : List ℕ → List ℕ → List ℕ → List ℕ → Curved → Type 0
-CurveAnswers file path values marks r = report_curve r ≡ path_answer (curve_causes file path values marks) path []
+abbrev pub CurveAnswers : List ℕ → List ℕ → List ℕ → List ℕ → Result (Unit {0}) Refusal → Type 0
+CurveAnswers file path values marks r = report no_values r ≡ path_answer (curve_causes file path values marks) path []
 
 abbrev pub CurveValuesWrites : List ℕ → List ℕ → List ℕ → List ℕ → List ℕ → Type 0
 CurveValuesWrites file path values marks new = new ≡ written (curve_causes file path values marks) (curve_values (family_of file) path) values
@@ -141,9 +138,9 @@ abbrev pub CurveMarksWrites : List ℕ → List ℕ → List ℕ → List ℕ �
 CurveMarksWrites file path values marks new = new ≡ written (curve_causes file path values marks) (curve_marks (family_of file) path) marks
 
 -- the answer of `curve` is a refusal exactly if a cause holds
-abbrev pub CurveDeclines : List ℕ → List ℕ → List ℕ → List ℕ → Curved → Type 0
-CurveDeclines file path values marks r = declined_curve r ≡ not (eqb (first_cause (curve_causes file path values marks)) 0)
+abbrev pub CurveDeclines : List ℕ → List ℕ → List ℕ → List ℕ → Result (Unit {0}) Refusal → Type 0
+CurveDeclines file path values marks r = is_err r ≡ not (eqb (first_cause (curve_causes file path values marks)) 0)
 
 -- the answer r of `cut`
-abbrev pub CutAnswers : List ℕ → List ℕ → ℕ → ℕ → CutFound → Type 0
-CutAnswers file path a b r = report_cut r ≡ path_answer (cut_causes file path a b) path (cut_of (family_of file) path a b ∷ [])
+abbrev pub CutAnswers : List ℕ → List ℕ → ℕ → ℕ → Result ℕ Refusal → Type 0
+CutAnswers file path a b r = report the_number r ≡ path_answer (cut_causes file path a b) path (cut_of (family_of file) path a b ∷ [])

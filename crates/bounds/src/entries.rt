@@ -16,19 +16,17 @@ fn next_entry(entry: u16, mark: u8) -> u16
     entry + (mark as u16)
 }
 
-// Writes the entries of a curve, from its marks at so many places.
-fn write_values(marks: &[u8], places: usize, values: &mut [u16])
-    requires marks_of { MarksOf places marks.now }
-    requires places_in_bounds { places < length values.old }
-    ensures { values.new ≡ tabulate (places + 1) (marks_up_to marks.now) ++ drop (places + 1) values.old }
+// Writes the entries of a curve, from all its marks.
+fn write_values(marks: &[u8], values: &mut [u16])
+    requires marks_of { MarksOf marks.now }
+    requires room { length marks.now < length values.old }
+    ensures { values.new ≡ tabulate (length marks.now + 1) (marks_up_to marks.now) ++ drop (length marks.now + 1) values.old }
 {
     let mut entry = 0;
-    let mut t = 0;
     values[0] = 0;
-    while t < places {
-        entry = next_entry(entry, marks[t]);
-        t += 1;
-        values[t] = entry;
+    for (t, mark) in marks.iter().enumerate() {
+        entry = next_entry(entry, *mark);
+        values[t + 1] = entry;
     }
 }
 
@@ -41,13 +39,13 @@ pub(crate) fn write_curve(
     marks: &mut [u8],
 )
     requires walkable { Walkable (family_of file.now) path.now parents.now }
-    requires path_in_bounds { length path.now + 1 ≤ length values.old }
-    requires path_in_bounds_2 { length path.now ≤ length marks.old }
+    requires values_room { length path.now + 1 ≤ length values.old }
+    requires marks_room { length path.now ≤ length marks.old }
     ensures values_after { values.new ≡ curve_values (family_of file.now) path.now ++ drop (length path.now + 1) values.old }
     ensures marks_after { marks.new ≡ curve_marks (family_of file.now) path.now ++ drop (length path.now) marks.old }
 {
     mark_path(file, parents, path, marks);
-    write_values(marks, path.len(), values);
+    write_values(&marks[..path.len()], values);
 }
 
 // The later of two cuts: t if entry t times b is at most a times t, else the one found before.
@@ -61,18 +59,16 @@ fn later_cut(before: u16, entry: u16, t: u16, a: u16, b: u16) -> u16
     }
 }
 
-// The largest t at which entry t times b is at most a times t, from the marks at so many places.
-fn last_passing(marks: &[u8], places: u16, a: u16, b: u16) -> u16
-    requires { MarksOf places marks.now }
-    ensures { result ≡ largest_up_to places (λ t. leb (marks_up_to marks.now t * b) (a * t)) }
+// The largest t at which entry t times b is at most a times t, from all marks of a curve.
+fn last_passing(marks: &[u8], a: u16, b: u16) -> u16
+    requires { MarksOf marks.now }
+    ensures { result ≡ largest_up_to (length marks.now) (λ t. leb (marks_up_to marks.now t * b) (a * t)) }
 {
     let mut entry = 0;
     let mut cut = 0;
-    let mut t = 0;
-    while t < places {
-        entry = next_entry(entry, marks[t as usize]);
-        cut = later_cut(cut, entry, t + 1, a, b);
-        t += 1;
+    for (i, mark) in marks.iter().enumerate() {
+        entry = next_entry(entry, *mark);
+        cut = later_cut(cut, entry, (i + 1) as u16, a, b);
     }
     cut
 }
@@ -84,5 +80,5 @@ pub(crate) fn find_cut(file: &[u8], parents: &[u16], path: &[u16], a: u16, b: u1
 {
     let mut marks = [0u8; 4096];
     mark_path(file, parents, path, &mut marks);
-    last_passing(&marks, path.len() as u16, a, b)
+    last_passing(&marks[..path.len()], a, b)
 }

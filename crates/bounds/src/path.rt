@@ -1,87 +1,57 @@
 // Whether a family and a path are accepted: causes 1 to 10, then 11, 12 and 13, each over the whole path.
 ghost use Rattle.std.specs.Prelude.{◌≡◌, ℕ, ◌<◌, ◌≤◌, length, get_or};
-ghost use Rattle.bounds.specs.Curves.{cause12, first_repeat};
-ghost use Rattle.bounds.specs.Private.Walks.{number_cause, Admission};
+ghost use Rattle.reader.specs.Refusals.{verdict};
+ghost use Rattle.bounds.specs.Curves.{cause12};
+ghost use Rattle.bounds.specs.Private.Walks.{number_cause, Differing, Admission};
 
-use reader::Checked;
-
-// The family and the path are accepted, or the number of the first cause that holds; number 13 with the first place
-// whose peptide stands earlier too.
-#[derive(Clone, Copy)]
-pub(crate) enum Admitted {
-    Yes,
-    Refused(u16),
-    Repeated(u16),
-}
+use reader::refusal::Refusal;
 
 // A path number 0 or over m.
 fn off_the_line(path: &[u16], peptides: u16) -> bool
     ensures { result ≡ cause12 peptides path.now }
 {
-    let mut i = 0;
-    while i < path.len() {
-        let number = path[i];
-        if number == 0 {
-            return true;
-        }
-        if peptides < number {
-            return true;
-        }
-        i += 1;
-    }
-    false
+    path.iter().any(|number| *number == 0 || peptides < *number)
 }
 
-// The first of the causes 11 and 12 that holds, or 0.
-fn number_cause(path: &[u16], peptides: u16) -> u16
-    ensures { result ≡ number_cause peptides path.now }
+// Declines by the first of the causes 11 and 12.
+fn check_numbers(path: &[u16], peptides: u16) -> Result<(), Refusal>
+    ensures { verdict result ≡ number_cause peptides path.now }
 {
     if (peptides as usize) < path.len() {
-        return 11;
+        return Err(Refusal::PathLength);
     }
-    if off_the_line(path, peptides) { 12 } else { 0 }
+    if off_the_line(path, peptides) {
+        return Err(Refusal::OffTheLine);
+    }
+    Ok(())
 }
 
-// The first place, counted from 1, whose peptide stands earlier too; 0 if all are different.
-fn first_repeat(path: &[u16]) -> u16
-    requires path_len_bound { length path.now ≤ 4096 }
-    requires by_index { (i : ℕ) → i < length path.now → get_or path.now i 0 ≤ 4096 }
-    ensures { result ≡ first_repeat path.now }
+// Declines with the first place, counted from 1, whose peptide stands earlier too.
+fn check_repeats(path: &[u16]) -> Result<(), Refusal>
+    requires short { length path.now ≤ 4096 }
+    requires numbers { (i : ℕ) → i < length path.now → get_or path.now i 0 ≤ 4096 }
+    ensures { Differing path.now result }
 {
-    let mut seen = [0u8; 4097];
-    let mut i = 0;
-    while i < path.len() {
-        let number = path[i] as usize;
-        if seen[number] != 0 {
-            return (i + 1) as u16;
+    let mut seen = [false; 4097];
+    for (i, number) in path.iter().enumerate() {
+        let peptide = *number as usize;
+        if seen[peptide] {
+            return Err(Refusal::Repeated((i + 1) as u16));
         }
-        seen[number] = 1;
-        i += 1;
+        seen[peptide] = true;
     }
-    0
+    Ok(())
 }
 
-// Tries the causes 1 to 13 in turn; where none holds, the parents of the regions are written.
-pub(crate) fn admit(file: &[u8], path: &[u16], parents: &mut [u16]) -> Admitted
-    requires { 8191 ≤ length parents.old }
+// Declines by the first of the causes 1 to 13; where none holds, the parents of the regions are written.
+pub(crate) fn check_path(
+    file: &[u8],
+    path: &[u16],
+    parents: &mut [u16; 8191],
+) -> Result<(), Refusal>
     ensures { Admission file.now path.now parents.new result }
 {
-    match reader::parents(file, parents) {
-        Checked::Family {
-            peptides,
-            leaves: _,
-            regions: _,
-        } => {
-            let number = number_cause(path, peptides);
-            if number != 0 {
-                return Admitted::Refused(number);
-            }
-            let place = first_repeat(path);
-            if place != 0 {
-                return Admitted::Repeated(place);
-            }
-            Admitted::Yes
-        }
-        Checked::Refused(number) => Admitted::Refused(number),
-    }
+    let sizes = reader::parents(file, parents)?;
+    check_numbers(path, sizes.peptides)?;
+    check_repeats(path)
 }

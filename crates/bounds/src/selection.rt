@@ -2,11 +2,13 @@
 ghost use Rattle.std.specs.Prelude.{cond, ◌≡◌, suc, ◌+◌, ◌<◌, ◌≤◌, length};
 ghost use Rattle.bounds.specs.Ranges.{card};
 ghost use Rattle.reader.specs.Causes.{first_cause};
+ghost use Rattle.reader.specs.Refusals.{verdict};
 ghost use Rattle.bounds.specs.Selections.{selected, cause14};
 ghost use Rattle.bounds.specs.Calls.{causes_with_room};
 
+use reader::check;
 use reader::family::Peptide;
-use reader::{Checked, check};
+use reader::refusal::Refusal;
 
 // Not that many bytes, or a byte over 1. The loop is not left early, so that the compiler can judge several bytes at once.
 pub(crate) fn bad_selection(selection: &[u8], whole: usize) -> bool
@@ -16,21 +18,10 @@ pub(crate) fn bad_selection(selection: &[u8], whole: usize) -> bool
         return true;
     }
     let mut over = false;
-    let mut i = 0;
-    while i < selection.len() {
-        over |= 1 < selection[i];
-        i += 1;
+    for byte in selection {
+        over |= 1 < *byte;
     }
     over
-}
-
-// 1 if the peptide after the one named is selected, else 0.
-fn bit_after(selection: &[u8], passed: Peptide) -> u16
-    requires { passed.0 < length selection.now }
-    ensures { result ≡ cond (selected selection.now (suc passed.0)) 1 0 }
-{
-    let i = passed.0 as usize;
-    if selection[i] == 1 { 1 } else { 0 }
 }
 
 // How many peptides after the first one named, and up to the second, are selected.
@@ -38,39 +29,34 @@ pub(crate) fn selected_between(selection: &[u8], after: Peptide, upto: Peptide) 
     requires { (after.0 ≤ upto.0) × (upto.0 ≤ length selection.now) }
     ensures { result + card after.0 (selected selection.now) ≡ card upto.0 (selected selection.now) }
 {
-    let end = upto.0;
-    let mut i = after.0;
     let mut count = 0;
-    while i < end {
-        count += bit_after(selection, Peptide(i));
-        i += 1;
+    for byte in &selection[after.0 as usize..upto.0 as usize] {
+        if *byte == 1 {
+            count += 1;
+        }
     }
     count
 }
 
-// The first cause of a call with a selection and an output of so many places, or 0.
-pub(crate) fn selection_cause(file: &[u8], selection: &[u8], room: usize) -> u16
-    ensures { result ≡ first_cause (causes_with_room file.now selection.now room) }
+// Declines by the first cause of a call with a selection and an output of so many places.
+pub(crate) fn check_selection(file: &[u8], selection: &[u8], room: usize) -> Result<(), Refusal>
+    ensures { verdict result ≡ first_cause (causes_with_room file.now selection.now room) }
 {
-    match check(file) {
-        Checked::Family {
-            peptides,
-            leaves: _,
-            regions,
-        } => {
-            if bad_selection(selection, peptides as usize) {
-                return 14;
-            }
-            if room < regions as usize { 16 } else { 0 }
-        }
-        Checked::Refused(number) => number,
+    let sizes = check(file)?;
+    if bad_selection(selection, sizes.peptides as usize) {
+        return Err(Refusal::Selection);
     }
+    if room < sizes.regions as usize {
+        return Err(Refusal::Room);
+    }
+    Ok(())
 }
 
-// The same, of `bound`. It is not made a part of that call, whose totals then need no stack beside the arrays of the check.
+// The same, of `bound`. It is not made a part of that call, whose totals then need no stack beside the arrays of the check. One function
+// for both, called by `inside_totals` too, lets `phf_reduce` need 8 KB more than the header states.
 #[inline(never)]
-pub(crate) fn bound_cause(file: &[u8], selection: &[u8], room: usize) -> u16
-    ensures { result ≡ first_cause (causes_with_room file.now selection.now room) }
+pub(crate) fn check_bound(file: &[u8], selection: &[u8], room: usize) -> Result<(), Refusal>
+    ensures { verdict result ≡ first_cause (causes_with_room file.now selection.now room) }
 {
-    selection_cause(file, selection, room)
+    check_selection(file, selection, room)
 }

@@ -1,6 +1,7 @@
 -- An accepted file holds a well-formed family, and what the check answers says so.
 --   ordered_if_clear                    where causes 7 and 8 do not hold, the regions lie on the leaves, in file order
 --   header_numbered, file_numbered      no cause of the header, or of the file, has the number 0, which stands for none
+--   file_lacks                          nor 13, with which a place comes
 --   HeaderClear                         none of the causes 1 to 5 holds
 --   header_clear                        so it is where the first cause of the header is 0
 --   header_whole                        and then the file has all the lengths and regions that its header counts
@@ -9,6 +10,9 @@
 --   header_none, family_none            the way back: where none of them holds, the first cause is 0
 --   file_header                         where a cause of the header holds, the first of them is the first of the file
 --   file_family                         where none does, the first of the family is the first of the file
+--   listed_header, listed_7             where none of the causes 1 to 7 holds, none of the header holds, nor 7
+--   file_listing                        where one of them holds, the first of them is the first of the file
+--   file_arrangement                    where none does, the first of the causes 8 to 10 is the first of the file
 --   accepted_header, accepted_family    of an accepted file none of the causes 1 to 5, and none of 6 to 10 holds
 --   well_formed_lem                         an accepted file holds a well-formed family
 --   reports_refused, reports_accepted   the first cause that holds, or m, N and K where none does, is what the check has to answer
@@ -22,7 +26,7 @@ use Prim.Native.Nat.{ℕ, zero, suc, ◌+◌, ◌<◌, ◌≤◌}
 use native.Mathlib.Omega.{arith}
 use native.Mathlib.Numerals.{add-one}
 use mathlib.Core.Bool.{Bool, true, false, cond}
-use mathlib.Core.List.{List, [], ◌∷◌}
+use mathlib.Core.List.{List, [], ◌∷◌, ◌++◌}
 use mathlib.Core.Path.{◌≡◌, refl, sym, ap, ◌∙◌}
 use mathlib.Core.Logic.{inl, inr, ⊎_elim}
 use lib.ListN.{length, take, drop}
@@ -32,14 +36,19 @@ use borrow.Author.Tests.{ne_eqb}
 use Rattle.reader.specs.Bytes.{IsBytes}
 use Rattle.reader.specs.Family as family
 use Rattle.reader.specs.Family.{Family, leaves, region_count, region, region_at, family_of, mark, lengths_offset, regions_offset, total_length}
-use Rattle.reader.specs.Causes.{cause1, cause2, cause3, cause4, cause5, cause6, cause7, cause8, cause9, cause10, first_cause, header_causes, family_causes, file_causes, Accepted}
+use Rattle.reader.specs.Causes.{cause1, cause2, cause3, cause4, cause5, cause6, cause7, cause8, cause9, cause10, first_cause, header_causes, listing_causes, arrangement_causes, family_causes, file_causes, Accepted}
 use Rattle.reader.specs.WellFormed.{Ordered, WellFormed}
 use Rattle.reader.specs.Private.InPlace.{Whole}
-use Rattle.reader.specs.declared.Checked.TheVariants.{Family as Accepts, Refused}
-use Rattle.reader.specs.Calls.{report, checked, region_part, part_start, RegionsGiven}
+use Rattle.reader.specs.Private.Climb.{Listed}
+use Rattle.std.specs.Prelude.{Ok, Err}
+use Rattle.reader.specs.declared.refusal.Refusal.{Refusal}
+use Rattle.reader.specs.declared.Sizes.{Sizes}
+use Rattle.reader.specs.Refusals.{number_of}
+use Rattle.reader.specs.Calls.{sizes, counts, checked, CheckAnswers, region_part, part_start, RegionsGiven}
 use Rattle.reader.proofs.Below.{below_suc}
 use Rattle.reader.proofs.Parsed.{leaves_read, regions_read, region_read, number_fits}
-use Rattle.reader.proofs.First.{Numbered, head_clear, join_clear, join_holds, clear_left, clear_right, answers, declines, learns_number, learns_values}
+use Rattle.reader.proofs.First.{Numbered, head_clear, join_clear, join_holds, clear_left, clear_right}
+use Rattle.reader.proofs.Refusals.{Lacks, says_ok, says_err, learns_ok, learns_err}
 use Rattle.reader.proofs.Judged.{Before, peptides_counted, leaves_counted, regions_counted, laid_down, lengths_clear, regions_placed, regions_rise}
 use Rattle.reader.proofs.Climbing.{nested_if_clear, shallow_if_clear}
 
@@ -80,6 +89,11 @@ header_numbered s = (omega arith, (omega arith, (omega arith, (omega arith, (ome
 pub file_numbered : (s : List ℕ) → Numbered (file_causes s)
 unfolding header_causes family_causes file_causes
 file_numbered s = omega arith
+
+-- nor 13, with which a place comes
+pub file_lacks : (s : List ℕ) → Lacks 13 (file_causes s)
+unfolding header_causes family_causes file_causes
+file_lacks s = omega arith
 
 pub record HeaderClear (s : List ℕ) : Type 0 where
   pub no1 : cause1 mark s ≡ false
@@ -127,6 +141,25 @@ unfolding family_causes first_cause
 family_none F h = rw (h.no6, h.no7, h.no8, h.no9, h.no10)
 
 module _ (s : List ℕ) where
+  pub listed_header : Listed s → first_cause (header_causes s) ≡ 0
+  listed_header h = clear_left (header_causes s) (listing_causes (family_of s)) (header_numbered s) h
+
+  listed_listing : Listed s → first_cause (listing_causes (family_of s)) ≡ 0
+  listed_listing h = clear_right (header_causes s) (listing_causes (family_of s)) (header_numbered s) h
+
+  pub listed_7 : Listed s → cause7 (family_of s) ≡ false
+  listed_7 h =
+      let a = head_clear _ _ (omega arith) (listed_listing h) in
+      (head_clear _ _ (omega arith) a.1).0
+
+  listing_numbered : Numbered (header_causes s ++ listing_causes (family_of s))
+  unfolding header_causes
+  listing_numbered = omega arith
+
+  file_parts : file_causes s ≡ (header_causes s ++ listing_causes (family_of s)) ++ arrangement_causes (family_of s)
+  unfolding header_causes family_causes file_causes
+  file_parts = refl
+
   pub file_header : (first_cause (header_causes s) ≡ 0 → ⊥) → first_cause (file_causes s) ≡ first_cause (header_causes s)
   unfolding file_causes
   file_header h = join_holds (header_causes s) (family_causes (family_of s)) h
@@ -134,6 +167,14 @@ module _ (s : List ℕ) where
   pub file_family : first_cause (header_causes s) ≡ 0 → first_cause (file_causes s) ≡ first_cause (family_causes (family_of s))
   unfolding file_causes
   file_family h = join_clear (header_causes s) (family_causes (family_of s)) (header_numbered s) h
+
+  pub file_listing :
+      (first_cause (header_causes s ++ listing_causes (family_of s)) ≡ 0 → ⊥)
+      → first_cause (file_causes s) ≡ first_cause (header_causes s ++ listing_causes (family_of s))
+  file_listing h = ap first_cause file_parts ∙ join_holds (header_causes s ++ listing_causes (family_of s)) (arrangement_causes (family_of s)) h
+
+  pub file_arrangement : Listed s → first_cause (file_causes s) ≡ first_cause (arrangement_causes (family_of s))
+  file_arrangement h = ap first_cause file_parts ∙ join_clear (header_causes s ++ listing_causes (family_of s)) (arrangement_causes (family_of s)) listing_numbered h
 
   pub accepted_header : Accepted s → HeaderClear s
   unfolding file_causes
@@ -169,26 +210,24 @@ module _ (s : List ℕ) where
 -- What the check answers.
 
 module _ (s : List ℕ) where
-  pub reports_refused : (n : ℕ) → n ≡ first_cause (file_causes s) → (n ≡ 0 → ⊥) → report (Refused n) ≡ checked s
-  unfolding report checked
-  reports_refused n e h = rw e (sym (declines (file_causes s) (λ z. h (e ∙ z)) _))
+  pub reports_refused : (e : Refusal) → number_of e ≡ first_cause (file_causes s) → CheckAnswers s (Err e)
+  unfolding checked
+  reports_refused e h = says_err sizes (file_causes s) _ e (file_lacks s) h
 
-  pub reports_accepted :
-      (m n k : ℕ) → Accepted s → m ≡ (family_of s).peptides → n ≡ leaves (family_of s) → k ≡ region_count (family_of s)
-      → report (Accepts m n k) ≡ checked s
-  unfolding report checked
-  reports_accepted m n k h a b c = rw (a, b, c) (sym (answers (file_causes s) h _))
+  pub reports_accepted : (n : Sizes) → Accepted s → sizes n ≡ counts (family_of s) → CheckAnswers s (Ok n)
+  unfolding checked
+  reports_accepted n h e = says_ok sizes (file_causes s) _ n h e
 
-  pub learns_refused : (n : ℕ) → report (Refused n) ≡ checked s → (n ≡ first_cause (file_causes s)) × (n ≡ 0 → ⊥)
-  unfolding report checked
-  learns_refused n h = learns_number (file_causes s) n _ _ h
+  pub learns_refused : (e : Refusal) → CheckAnswers s (Err e) → number_of e ≡ first_cause (file_causes s)
+  unfolding checked
+  learns_refused e h = (learns_err sizes (file_causes s) _ e h).0
 
   pub learns_accepted :
-      (m n k : ℕ) → report (Accepts m n k) ≡ checked s
-      → record { accepted : Accepted s; peptides : m ≡ (family_of s).peptides; leaves : n ≡ family.leaves (family_of s); regions : k ≡ region_count (family_of s) }
-  unfolding report checked
-  learns_accepted m n k h =
-      let v = learns_values (file_causes s) 0 m (n ∷ k ∷ []) _ h in
+      (n : Sizes) → CheckAnswers s (Ok n)
+      → record { accepted : Accepted s; peptides : n.peptides ≡ (family_of s).peptides; leaves : n.leaves ≡ family.leaves (family_of s); regions : n.regions ≡ region_count (family_of s) }
+  unfolding checked
+  learns_accepted n h =
+      let v = learns_ok sizes (file_causes s) _ n h in
       let e = v.1 in
       record { accepted = v.0; peptides = cc; leaves = cc; regions = cc }
 

@@ -21,10 +21,10 @@ use Rattle.reader.proofs.Parsed.{leaves_read, regions_read}
 
 -- Tests on numbers, as facts.
 
-eq_if_same : (a b : ℕ) → not (eqb a b) ≡ false → a ≡ b
+pub eq_if_same : (a b : ℕ) → not (eqb a b) ≡ false → a ≡ b
 eq_if_same a b h = eqb-true a b (not-false (eqb a b) h)
 
-same_if_eq : (a b : ℕ) → a ≡ b → not (eqb a b) ≡ false
+pub same_if_eq : (a b : ℕ) → a ≡ b → not (eqb a b) ≡ false
 same_if_eq a b h = not_fails (eqb a b) (eq-eqb a b h)
 
 some_if : (a : ℕ) → eqb a 0 ≡ false → 1 ≤ a

@@ -7,6 +7,7 @@ pub mod Parsed
 pub mod Judged
 pub mod Walk
 pub mod First
+pub mod Refusals
 pub mod Climbing
 pub mod Accepting
 pub mod ParentLaws

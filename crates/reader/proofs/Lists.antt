@@ -10,6 +10,7 @@
 --   not_same          it fails for lists that are not equal
 --   same_all          it passes for lists of one length that agree at every place
 --   same_is           it passes for equal lists
+--   pointwise_same    it is the library's test that two slices are equal, and so is it with the lists the other way round (pointwise_swap)
 --   copy_more         a copy of the front of one list into another, one element further
 --   tabulate_more     `tabulate` with one element more
 --   write_none        a list that is written from the start with f 0, f 1, ..: before the first
@@ -21,7 +22,7 @@ use Prim.Native.Nat.{ℕ, zero, suc, ◌+◌, ◌<◌, ◌≤◌}
 use native.Mathlib.Nat.{not-suc-le-zero, le_of_suc-le-suc}
 use native.Mathlib.Omega.{arith}
 use native.Mathlib.Numerals.{add-one}
-use mathlib.Core.Bool.{true, false}
+use mathlib.Core.Bool.{Bool, true, false}
 use mathlib.Core.List.{List, [], ◌∷◌, ◌++◌, map}
 use mathlib.Core.Path.{◌≡◌, refl, sym, ap, ◌∙◌}
 use mathlib.Core.Logic.{⊎_elim}
@@ -29,9 +30,12 @@ use lib.ListN.{length, get_or, take, drop, set, replicate}
 use lib.Seq.{ext_get_or, drop-cons, take-suc, set_at, append_snoc, drop-set-lt, length-take-le, get_or-set_same, get_or-set_other}
 use lib.Dec.{eqb}
 use borrow.Author.Tests.{eqb-true, eq-eqb}
+use Rattle.std.specs.Prelude.{nat_eq, MatchBool}
+use lib.Pointwise.{pointwise}
+use Rattle.std.specs.Cmp.Lexicographic.{told_text}
 use Rattle.reader.specs.Lists.{tabulate, sum, same_list}
 use Rattle.reader.proofs.Below.{below_next}
-use Rattle.reader.proofs.Bools.{and_l, and_r, and_both, refuted, clash}
+use Rattle.reader.proofs.Bools.{and_l, and_r, and_both, refuted, clash, both_ways}
 
 module _ {A : Type 0} where
   pub length_tabulate : (n : ℕ) (f : ℕ → A) → length (tabulate n f) ≡ n
@@ -90,6 +94,21 @@ same_all l k e h = rw (ext_get_or 0 l k e h) (same_refl k)
 
 pub same_is : (l k : List ℕ) → l ≡ k → same_list l k ≡ true
 same_is l k e = rw e (same_refl k)
+
+-- the library's test that two slices are equal
+pub pointwise_same : (a b : List ℕ) → pointwise nat_eq a b ≡ same_list a b
+pointwise_same a b = told (pointwise nat_eq a b) (told_text a b _ refl)
+  where
+    told : (r : Bool) → MatchBool r (a ≡ b) (a ≡ b → ⊥) → r ≡ same_list a b
+    told true e = sym (same_is a b e)
+    told false n = sym (not_same a b n)
+
+-- either list may come first
+same_swap : (a b : List ℕ) → same_list a b ≡ same_list b a
+same_swap a b = both_ways (same_list a b) (same_list b a) (λ t. same_is b a (sym (same_equal a b t))) (λ t. same_is a b (sym (same_equal b a t)))
+
+pub pointwise_swap : (a b : List ℕ) → pointwise nat_eq a b ≡ same_list b a
+pointwise_swap a b = pointwise_same a b ∙ same_swap a b
 
 pub copy_more :
     (f t : List ℕ) (i : ℕ) → i < length f → i < length t → set (take i f ++ drop i t) i (get_or f i 0) ≡ take (i + 1) f ++ drop (i + 1) t

@@ -1,14 +1,16 @@
 -- Numbers written in a row over a list of bytes.
-use Prim.Native.Nat.{ℕ, suc, ◌+◌, ◌*◌, ◌/◌, ◌%◌, ◌<◌, ◌≤◌}
-use mathlib.Core.List.{List, [], ◌∷◌, ◌++◌}
+use Prim.Native.Nat.{ℕ, suc, min, ◌+◌, ◌-◌, ◌*◌, ◌/◌, ◌%◌, ◌<◌, ◌≤◌}
+use mathlib.Core.List.{List, [], ◌∷◌, ◌++◌, append_assoc}
+use mathlib.Core.Logic.{⊎_elim}
 use mathlib.Core.Path.{◌≡◌, refl, sym, ap, ◌∙◌}
 use native.Mathlib.Nat.{add-zero}
 use native.Mathlib.Numerals.{add-one}
 use native.Mathlib.Omega.{arith}
 use lib.ListN.{length, get_or, take, drop, set, length-set, take-append-drop}
-use lib.Seq.{sets, length-sets, length-take-le, take-suc, set_out}
+use lib.Seq.{sets-eq, drop-drop, sets, length-sets, length-take-le, take-suc, set_out}
 use Rattle.reader.specs.Bytes.{bytes_of, with_numbers}
 use Rattle.reader.specs.Family.{Region, region_fields}
+use Rattle.reader.proofs.Members.{le_or_lt}
 use Rattle.reader.proofs.Files.{length_bytes}
 
 pub bytes_join : (ns ms : List ℕ) → bytes_of (ns ++ ms) ≡ bytes_of ns ++ bytes_of ms
@@ -43,12 +45,16 @@ module _ (out : List ℕ) (at : ℕ) where
       numbers_join (take i ns) (get_or ns i 0 ∷ []) (at + 2 * i) (omega (arith, length-take-le i ns (omega arith)))
       ∙ ap (with_numbers out at) (rw (add-one i) (sym (take-suc ns i 0 h)))
 
-  -- a number is the two stores of its bytes
-  pub number_put : (n : ℕ) → n < 65536 → set (set out at (n % 256)) (at + 1) (n / 256) ≡ with_numbers out at (n ∷ [])
+  -- a number is its two bytes in the place of two
+  pub pair_put : (n : ℕ) (pair : List ℕ) → at + 2 ≤ length out → pair ≡ n % 256 ∷ n / 256 % 256 ∷ []
+      → take at out ++ (pair ++ drop (at + 2 - at) (drop at out)) ≡ with_numbers out at (n ∷ [])
   unfolding with_numbers bytes_of
-  number_put n h =
-      let high : n / 256 ≡ n / 256 % 256 = omega arith in
-      rw (add-one at, ← high)
+  pair_put n pair h e =
+      let two : at + 2 - at ≡ 2 = omega arith in
+      ap (λ (l : List ℕ). take at out ++ (l ++ drop (at + 2 - at) (drop at out))) e
+      ∙ ap (λ (k : ℕ). take at out ++ n % 256 ∷ n / 256 % 256 ∷ drop k (drop at out)) two
+      ∙ ap (λ (l : List ℕ). take at out ++ n % 256 ∷ n / 256 % 256 ∷ l) (drop-drop 2 at out)
+      ∙ sym (sets-eq (n % 256 ∷ n / 256 % 256 ∷ []) out at h ∙ append_assoc (take at out) (n % 256 ∷ n / 256 % 256 ∷ []) (drop (at + 2) out))
 
   -- where the high byte lies past the end it is the store of the low byte
   pub low_byte_put : (n : ℕ) → length out ≤ at + 1 → set out at (n % 256) ≡ with_numbers out at (n ∷ [])
@@ -80,3 +86,19 @@ numbers_past out at ns i h past =
   where
     none : (l : List ℕ) (i : ℕ) (ms : List ℕ) → length l ≤ i → with_numbers l i ms ≡ l
     none l i ms h = unfold with_numbers in sets_past l i (bytes_of ms) h
+
+-- the first i numbers, and the next one at its place or, where that lies past the end, at the end
+pub numbers_more : (out : List ℕ) (at : ℕ) (ns : List ℕ) (i : ℕ) → i < length ns
+    → with_numbers (with_numbers out at (take i ns)) (min (at + 2 * i) (length out)) (get_or ns i 0 ∷ []) ≡ with_numbers out at (take (i + 1) ns)
+numbers_more out at ns i h =
+    let n = get_or ns i 0 in
+    let front = with_numbers out at (take i ns) in
+    ⊎_elim
+    (λ (g : length out ≤ at + 2 * i).
+    sym (no_byte_put front (min (at + 2 * i) (length out)) n (omega (arith, numbers_length out at (take i ns))))
+    ∙ numbers_past out at ns i (omega arith) g
+    ∙ sym (numbers_past out at ns (i + 1) (omega arith) (omega arith)))
+    (λ (l : at + 2 * i < length out).
+    let inside : min (at + 2 * i) (length out) ≡ at + 2 * i = omega arith in
+    ap (λ (k : ℕ). with_numbers front k (n ∷ [])) inside ∙ numbers_next out at ns i h)
+    (le_or_lt (length out) (at + 2 * i))

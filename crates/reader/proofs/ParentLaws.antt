@@ -4,7 +4,7 @@ use native.Mathlib.Nat.{eq-or-lt_of_le}
 use native.Mathlib.Omega.{arith}
 use mathlib.Core.Bool.{Bool, cond}
 use mathlib.Core.List.{List, ◌++◌}
-use mathlib.Core.Path.{◌≡◌, sym, ap, subst, ◌∙◌}
+use mathlib.Core.Path.{◌≡◌, refl, sym, ap, subst, ◌∙◌}
 use mathlib.Core.Logic.{⊎_elim}
 use lib.ListN.{length, get_or, take, drop, get_or-append}
 use lib.Dec.{leb, ltb}
@@ -12,15 +12,17 @@ use borrow.Author.Tests.{leb-true, leb-false, lt-ltb, le-ltb}
 use Rattle.reader.specs.Family.{Family, family_of, region_count, region}
 use Rattle.reader.specs.Nesting.{parent, parents}
 use Rattle.reader.specs.Causes.{first_cause, file_causes, Accepted}
-use Rattle.reader.specs.declared.Checked.TheVariants.{Refused}
-use Rattle.reader.specs.Calls.{report, counts, answer, written, checked, short, parents_causes, ParentsAnswers, ParentsWrites}
+use Rattle.std.specs.Prelude.{Err}
+use Rattle.reader.specs.declared.refusal.Refusal.TheVariants.{Room}
+use Rattle.reader.specs.Calls.{sizes, counts, answer, written, checked, short, parents_causes, ParentsAnswers, ParentsWrites}
 use Rattle.reader.specs.WellFormed.{Ordered, NestedBelow, IsParent, ParentsBelow}
 use Rattle.reader.proofs.Bools.{test}
 use Rattle.reader.proofs.Below.{below_suc}
 use Rattle.reader.proofs.Lists.{length_tabulate, get_d_tabulate}
 use Rattle.reader.proofs.Climbing.{parent_is, parents_written, nested_if_clear}
-use Rattle.reader.proofs.First.{join_clear, join_holds, clear_left, declines, writes, leaves_unchanged, same_first, none_or_some}
-use Rattle.reader.proofs.Accepting.{ordered_if_clear, file_numbered, accepted_header, accepted_family, few_regions}
+use Rattle.reader.proofs.First.{join_clear, join_holds, clear_left, writes, leaves_unchanged, same_first, none_or_some}
+use Rattle.reader.proofs.Refusals.{lacks_joined, says_err}
+use Rattle.reader.proofs.Accepting.{ordered_if_clear, file_numbered, file_lacks, accepted_header, accepted_family, few_regions}
 
 -- c is the number of the last of the first n regions that ends with the k-th one or later
 record Reaching (F : Family) (k n c : ℕ) : Type 0 where
@@ -111,12 +113,12 @@ module _ (s out : List ℕ) where
   pub parents_unwritten : (first_cause (file_causes s) ≡ 0 → ⊥) → ParentsWrites s out out
   parents_unwritten h = sym (leaves_unchanged (parents_causes s out) (λ z. h (sym (parents_file h) ∙ z)) _ out)
 
-  pub parents_short : Accepted s → length out < region_count (family_of s) → ParentsAnswers s out (Refused 16) × ParentsWrites s out out
-  unfolding report
+  pub parents_short : Accepted s → length out < region_count (family_of s) → ParentsAnswers s out (Err Room) × ParentsWrites s out out
+  unfolding parents_causes
   parents_short h l =
       let e : first_cause (parents_causes s out) ≡ 16 = parents_room h ∙ ap (λ (b : Bool). cond b 16 0) (lt-ltb (length out) (region_count (family_of s)) l) in
       let some : first_cause (parents_causes s out) ≡ 0 → ⊥ = λ z. omega arith in
-      (rw (sym e) (sym (declines (parents_causes s out) some _)), sym (leaves_unchanged (parents_causes s out) some _ out))
+      (says_err sizes (parents_causes s out) _ Room (lacks_joined 13 (file_causes s) _ (file_lacks s) (omega arith)) (sym e), sym (leaves_unchanged (parents_causes s out) some _ out))
 
   pub parents_checked : (Accepted s → region_count (family_of s) ≤ length out) → answer (parents_causes s out) (counts (family_of s)) ≡ checked s
   unfolding checked

@@ -1,17 +1,13 @@
 -- What the calls of `reader` answer, defined from the bytes of the file.
-use Rattle.std.specs.Prelude.{ℕ, ◌+◌, Bool, cond, List, [], ◌∷◌, ◌++◌, ◌≡◌, length, take, drop, ltb, eqb}
+use Rattle.std.specs.Prelude.{Result, ℕ, ◌+◌, Bool, cond, List, [], ◌∷◌, ◌++◌, ◌≡◌, length, take, drop, ltb, eqb}
+pub use Rattle.reader.specs.Refusals.{Report, report}
 use Rattle.reader.specs.Family as family
 use Rattle.reader.specs.Family.{family_of, leaves, region_count, regions_offset}
 use Rattle.reader.specs.Nesting.{parents}
 use Rattle.reader.specs.Causes.{Cause, first_cause, file_causes}
-use Rattle.reader.specs.declared.Checked.{Checked}
-use Rattle.reader.specs.declared.Checked.TheVariants.{Family, Refused}
+use Rattle.reader.specs.declared.refusal.Refusal.{Refusal}
+use Rattle.reader.specs.declared.Sizes.{Sizes}
 use Rattle.reader.specs.declared.family.Region.{Region}
-
--- What an answer says: a cause's number, 0 for none, and the values that come with it.
-pub record Report : Type 0 where
-  pub number : ℕ
-  pub values : List ℕ
 
 -- A call with these causes answers the number of the first that holds, else the values.
 unfoldable pub answer : List Cause → List ℕ → Report
@@ -25,10 +21,9 @@ at_start new old = new ++ drop (length new) old
 unfoldable pub written : List Cause → List ℕ → List ℕ → List ℕ
 written cs new old = cond (eqb (first_cause cs) 0) (at_start new old) old
 
--- the number and the values of each case of `Checked`
-unfoldable pub report : Checked → Report
-report (Family m n k) = record { number = 0; values = m ∷ n ∷ k ∷ [] }
-report (Refused n) = record { number = n; values = [] }
+-- m, N and K, as an answer has them
+abbrev pub sizes : Sizes → List ℕ
+sizes n = n.peptides ∷ n.leaves ∷ n.regions ∷ []
 
 -- m, N and K
 abbrev pub counts : family.Family → List ℕ
@@ -39,8 +34,8 @@ unfoldable pub checked : List ℕ → Report
 checked s = answer (file_causes s) (counts (family_of s))
 
 -- the answer r of `check`
-abbrev pub CheckAnswers : List ℕ → Checked → Type 0
-CheckAnswers s r = report r ≡ checked s
+abbrev pub CheckAnswers : List ℕ → Result Sizes Refusal → Type 0
+CheckAnswers s r = report sizes r ≡ checked s
 
 -- the part of an accepted file that holds the regions; nothing of any other file
 unfoldable pub region_part : List ℕ → List ℕ
@@ -71,8 +66,8 @@ unfoldable pub parents_causes : List ℕ → List ℕ → List Cause
 parents_causes file out = file_causes file ++ (record { number = 16; holds = short (region_count (family_of file)) (length out) } ∷ [])
 
 -- its answer r, and what it leaves in the lent list
-abbrev pub ParentsAnswers : List ℕ → List ℕ → Checked → Type 0
-ParentsAnswers file out r = report r ≡ answer (parents_causes file out) (counts (family_of file))
+abbrev pub ParentsAnswers : List ℕ → List ℕ → Result Sizes Refusal → Type 0
+ParentsAnswers file out r = report sizes r ≡ answer (parents_causes file out) (counts (family_of file))
 
 abbrev pub ParentsWrites : List ℕ → List ℕ → List ℕ → Type 0
 ParentsWrites file out new = new ≡ written (parents_causes file out) (parents (family_of file)) out

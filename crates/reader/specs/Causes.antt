@@ -74,22 +74,29 @@ layout_causes start s =
     ∷ record { number = 5; holds = cause5 start s }
     ∷ []
 
--- what the header says
+-- what the header says, of a file with that mark and its leaf lengths from that byte on
+abbrev pub marked_causes : List ℕ → ℕ → List ℕ → List Cause
+marked_causes wanted start s = record { number = 1; holds = cause1 wanted s } ∷ layout_causes start s
+
+-- what the header of a family file says
 unfoldable pub header_causes : List ℕ → List Cause
-header_causes s = record { number = 1; holds = cause1 mark s } ∷ layout_causes lengths_offset s
+header_causes s = marked_causes mark lengths_offset s
 
 -- what the leaf lengths and the regions say, one by one
 abbrev pub listing_causes : Family → List Cause
 listing_causes F = record { number = 6; holds = cause6 F } ∷ record { number = 7; holds = cause7 F } ∷ []
 
--- what the leaf lengths and the regions say
-unfoldable pub family_causes : Family → List Cause
-family_causes F =
-    listing_causes F
-    ++ (record { number = 8; holds = cause8 F }
+-- what the regions say, held against each other
+abbrev pub arrangement_causes : Family → List Cause
+arrangement_causes F =
+    record { number = 8; holds = cause8 F }
     ∷ record { number = 9; holds = cause9 F }
     ∷ record { number = 10; holds = cause10 F }
-    ∷ [])
+    ∷ []
+
+-- what the leaf lengths and the regions say
+unfoldable pub family_causes : Family → List Cause
+family_causes F = listing_causes F ++ arrangement_causes F
 
 unfoldable pub file_causes : List ℕ → List Cause
 file_causes s = header_causes s ++ family_causes (family_of s)

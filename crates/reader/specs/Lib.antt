@@ -5,5 +5,6 @@ pub mod Family
 pub mod Nesting
 pub mod Causes
 pub mod WellFormed
+pub mod Refusals
 pub mod Calls
 pub mod Private

@@ -14,7 +14,7 @@ fn byte_at(s: &[u8], at: usize) -> u8
 pub fn number_of(low: u8, high: u8) -> u16
     ensures { result ≡ low + 256 * high }
 {
-    (low as u16) + 256 * (high as u16)
+    u16::from_le_bytes([low, high])
 }
 
 // The number whose two bytes both lie in the slice.
@@ -54,8 +54,7 @@ fn put_within(out: &mut [u8], at: usize, n: u16)
     requires { at + 2 ≤ length out.old }
     ensures { out.new ≡ with_numbers out.old at (n ∷ []) }
 {
-    out[at] = (n % 256) as u8;
-    out[at + 1] = (n / 256) as u8;
+    out[at..at + 2].copy_from_slice(&n.to_le_bytes());
 }
 
 // Writes a number at an offset; what lies past the end is not written. One comparison settles both bytes of any but the last.
@@ -78,15 +77,10 @@ pub fn put_numbers(out: &mut [u8], at: usize, numbers: &[u16])
     ensures { out.new ≡ with_numbers out.old at numbers.now }
 {
     let end = out.len();
-    let mut place = at;
-    let mut i = 0;
-    while i < numbers.len() {
-        if end <= place {
-            return;
-        }
-        put_number(out, place, numbers[i]);
-        place += 2;
-        i += 1;
+    let mut place = at.min(end);
+    for n in numbers {
+        put_number(out, place, *n);
+        place = end.min(place + 2);
     }
 }
 
@@ -94,22 +88,12 @@ pub fn put_numbers(out: &mut [u8], at: usize, numbers: &[u16])
 pub fn smaller(a: u16, b: u16) -> u16
     ensures { result ≡ min a b }
 {
-    if a <= b { a } else { b }
+    a.min(b)
 }
 
 // Whether two slices hold the same bytes.
 pub fn same_bytes(a: &[u8], b: &[u8]) -> bool
     ensures { result ≡ same_list a.now b.now }
 {
-    if a.len() != b.len() {
-        return false;
-    }
-    let mut i = 0;
-    while i < a.len() {
-        if a[i] != b[i] {
-            return false;
-        }
-        i += 1;
-    }
-    true
+    a == b
 }

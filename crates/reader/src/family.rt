@@ -1,12 +1,13 @@
 // Leaves, peptides and regions of a family file.
-ghost use Rattle.std.specs.Prelude.{◌≡◌, ◌+◌, ◌-◌, ◌<◌, ◌≤◌, length};
-ghost use Rattle.reader.specs.Family.{family_of, leaves, region_count, leaf_length, peptides_up_to, no_region, region, regions_offset, total_length};
+ghost use Rattle.std.specs.Prelude.{◌≡◌, ℕ, ◌+◌, ◌-◌, ◌*◌, ◌<◌, ◌≤◌, length};
+ghost use Rattle.reader.specs.Family.{family_of, leaves, region_count, leaf_length, peptides_up_to, region, total_length};
+ghost use Rattle.reader.specs.Bytes.{number_at};
 ghost use Rattle.reader.specs.Calls.{held};
 
-use crate::bytes::{number_at, number_within, smaller};
+use crate::bytes::{number_at, number_within};
 
 // The number of a leaf, 1 to N.
-#[derive(Clone, Copy)]
+#[derive(Clone, Copy, Default)]
 pub struct Leaf(pub u16);
 
 // The number of a peptide, 1 to m.
@@ -14,7 +15,7 @@ pub struct Leaf(pub u16);
 pub struct Peptide(pub u16);
 
 // All peptides of the leaves from the first to the last, of which at most z are false.
-#[derive(Clone, Copy)]
+#[derive(Clone, Copy, Default)]
 pub struct Region {
     pub first: Leaf,
     pub last: Leaf,
@@ -47,43 +48,28 @@ pub fn leaf_length(file: &[u8], leaf: Leaf) -> u16
     ensures { result ≡ leaf_length (family_of file.now) leaf.0 }
 {
     let j = leaf.0;
-    if j == 0 {
-        return 0;
-    }
-    if leaf_count(file) < j {
+    if j == 0 || leaf_count(file) < j {
         return 0;
     }
     number_at(file, 14 + 2 * (j as usize))
 }
 
-// The lengths of the leaves after one and up to another, added up, where the file has them. The loop has no way out: several lengths
-// are then added at once.
-pub(crate) fn added_lengths(file: &[u8], after: u16, upto: u16) -> u32
+// The lengths of the leaves after one and up to another, added up; the number at an offset is read as the caller says. The loop has no
+// way out: with a reading that has none, several lengths are added at once.
+pub(crate) fn added_lengths<F: Fn(&[u8], usize) -> u16>(
+    file: &[u8],
+    after: u16,
+    upto: u16,
+    number: F,
+) -> u32
     requires after_le_upto { (after ≤ upto) × (upto ≤ leaves (family_of file.now)) }
-    requires upto_in_bounds { regions_offset upto ≤ length file.now }
+    requires readable { (j : ℕ) → j < upto → F.pre number file (16 + 2 * j) }
+    requires reads { (j n : ℕ) → j < upto → F.post number file (16 + 2 * j) n → n ≡ number_at file.now (16 + 2 * j) }
     ensures { result ≡ peptides_up_to (family_of file.now) upto - peptides_up_to (family_of file.now) after }
 {
-    let end = upto as usize;
     let mut sum: u32 = 0;
-    let mut j = after as usize;
-    while j < end {
-        sum += number_within(file, 16 + 2 * j) as u32;
-        j += 1;
-    }
-    sum
-}
-
-// The same in a file that lacks some of them: what lies past the end counts as 0.
-fn added_one_by_one(file: &[u8], after: u16, upto: u16) -> u32
-    requires { (after ≤ upto) × (upto ≤ leaves (family_of file.now)) }
-    ensures { result ≡ peptides_up_to (family_of file.now) upto - peptides_up_to (family_of file.now) after }
-{
-    let end = upto as usize;
-    let mut sum: u32 = 0;
-    let mut j = after as usize;
-    while j < end {
-        sum += number_at(file, 16 + 2 * j) as u32;
-        j += 1;
+    for j in after as usize..upto as usize {
+        sum += number(file, 16 + 2 * j) as u32;
     }
     sum
 }
@@ -94,14 +80,14 @@ pub fn peptides_between(file: &[u8], after: Leaf, upto: Leaf) -> u32
     ensures { result ≡ peptides_up_to (family_of file.now) upto.0 - peptides_up_to (family_of file.now) after.0 }
 {
     let start = after.0;
-    let end = smaller(upto.0, leaf_count(file));
+    let end = upto.0.min(leaf_count(file));
     if end <= start {
         return 0;
     }
     if file.len() < 16 + 2 * (end as usize) {
-        return added_one_by_one(file, start, end);
+        return added_lengths(file, start, end, number_at);
     }
-    added_lengths(file, start, end)
+    added_lengths(file, start, end, number_within)
 }
 
 // The k-th region, where the file is known to have it: the check has compared the length with the header by then, and
@@ -119,26 +105,12 @@ pub(crate) fn region_within(file: &[u8], k: u16) -> Region
     }
 }
 
-// All fields 0.
-fn no_region() -> Region
-    ensures { held result ≡ no_region }
-{
-    Region {
-        first: Leaf(0),
-        last: Leaf(0),
-        z: 0,
-    }
-}
-
 // The k-th region, counted from 0; all fields 0 where the file has no such region. What lies past the end counts as 0.
 pub fn region_of(file: &[u8], k: u16) -> Region
     ensures { held result ≡ region (family_of file.now) k }
 {
-    if file.len() < 16 {
-        return no_region();
-    }
-    if number_within(file, 8) <= k {
-        return no_region();
+    if file.len() < 16 || number_within(file, 8) <= k {
+        return Region::default();
     }
     let at = 16 + 2 * (number_within(file, 6) as usize) + 6 * (k as usize);
     if at + 6 <= file.len() {

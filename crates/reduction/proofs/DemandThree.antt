@@ -2,21 +2,22 @@
 -- `Alike F G` says that F and G have the same number m of peptides and, for every path, the same curve; `SameBounds F G` that they have the
 -- same m and, for every selection, the same bound.
 use Prim.Native.Nat.{ℕ, ◌≤◌}
-use mathlib.Core.Bool.{Bool}
+use mathlib.Core.Bool.{Bool, true, false}
 use mathlib.Core.List.{List, [], ◌∷◌}
 use mathlib.Core.Path.{◌≡◌, refl, sym, ap, ◌∙◌}
-use mathlib.Core.Logic.{⊎_elim}
 use native.Mathlib.Omega.{arith}
 use lib.ListN.{length, get_or, take, drop}
 use lib.Seq.{take_at, drop_at}
+use Rattle.std.specs.Prelude.{Result, Ok, Err}
 use Rattle.reader.specs.Lists.{same_list}
 use Rattle.reader.specs.Bytes.{IsBytes, number_at}
 use Rattle.reader.specs.Family.{Family, leaves, region_count, leaf_length, family_of}
 use Rattle.reader.specs.Causes.{first_cause, Accepted, AcceptedFile}
-use Rattle.reader.specs.Calls.{Report}
-use Rattle.reader.proofs.Bools.{test}
-use Rattle.reader.proofs.Lists.{same_equal, same_is}
-use Rattle.reader.proofs.First.{answers, writes, learns_values}
+use Rattle.reader.specs.declared.refusal.Refusal.{Refusal}
+use Rattle.reader.specs.Refusals.{Report}
+use Rattle.reader.proofs.Lists.{same_equal, same_is, not_same}
+use Rattle.reader.proofs.First.{answers, writes}
+use Rattle.reader.proofs.Refusals.{some_holds, learns_ok, learns_err}
 use Rattle.reader.proofs.Parsed.{regions_read}
 use Rattle.reader.proofs.Judged.{laid_down}
 use Rattle.reader.proofs.Accepting.{accepted_header}
@@ -27,21 +28,19 @@ use Rattle.bounds.proofs.Theory.Family.{accepted_laminar}
 use Rattle.bounds.proofs.DemandTwo.{value_left}
 use Rattle.reduction.specs.Reduction.{reduced_file}
 use Rattle.reduction.specs.Alike.{Alike, SameBounds}
-use Rattle.reduction.specs.declared.ReducedFile.{ReducedFile}
-use Rattle.reduction.specs.declared.ReducedFile.TheVariants as made
-use Rattle.reduction.specs.declared.Compared.{Compared}
-use Rattle.reduction.specs.declared.Compared.TheVariants as compared
-use Rattle.reduction.specs.Calls.{report_reduced, reduce_causes, reduced_counts, report_compared, compare_causes, comparison, ReduceAnswers, ReduceWrites, SameAnswers}
+use Rattle.reduction.specs.declared.Size.{Size}
+use Rattle.reduction.specs.declared.PairRefusal.{PairRefusal}
+use Rattle.reduction.specs.Calls.{size_values, reduce_causes, reduced_counts, report_compared, compare_causes, comparison, ReduceAnswers, ReduceWrites, SameAnswers}
 use Rattle.reduction.proofs.Theory.Curves.{bounds_alike, alike_bounds}
 use Rattle.reduction.proofs.Theory.OneForm.{NoLarger}
 use Rattle.reduction.proofs.Theory.OneFile.{reduced_accepted, reduced_bytes, reduced_file_alike, reduced_file_measured, reduced_file_again, reduced_file_fits, alike_same_file, same_file_alike, smallest_file}
-use Rattle.reduction.proofs.Calls.ReduceCalls.{output_suffices, both_accepted}
+use Rattle.reduction.proofs.Calls.ReduceCalls.{output_suffices, both_accepted, pair_some}
 
 -- the answer has the length and the K of the reduced file, which is as many of the first bytes of the output; the rest is unchanged
-pub record WrittenAt (file out : List ℕ) (r : ReducedFile) (new : List ℕ) : Type 0 where
+pub record WrittenAt (file out : List ℕ) (r : Result Size Refusal) (new : List ℕ) : Type 0 where
   pub bytes : ℕ
   pub regions : ℕ
-  pub counted : r ≡ made.Written bytes regions
+  pub counted : r ≡ Ok (record { length = bytes; regions = regions })
   pub whole : bytes ≡ length (reduced_file file)
   -- as they stand in it at offsets 14 and 8
   pub said_bytes : bytes ≡ number_at (reduced_file file) 14
@@ -75,21 +74,21 @@ pub record DemandThree : Type 0 where
   -- It is no longer than the file, so an output as long as the file suffices.
   pub fits : (f : AcceptedFile) → length (reduced_file f.file) ≤ length f.file
   -- By its two promises `reduce` writes this file,
-  pub reduces : (f : AcceptedFile) (out new : List ℕ) (r : ReducedFile) → length f.file ≤ length out → ReduceAnswers f.file out r → ReduceWrites f.file out new → WrittenAt f.file out r new
+  pub reduces : (f : AcceptedFile) (out new : List ℕ) (r : Result Size Refusal) → length f.file ≤ length out → ReduceAnswers f.file out r → ReduceWrites f.file out new → WrittenAt f.file out r new
   -- and the K and the length that it answers are at most those of any file with this m and these curves.
-  pub fewest_answered : (f g : AcceptedFile) (out : List ℕ) (l k : ℕ) → ReduceAnswers f.file out (made.Written l k)
-      → Alike (family_of f.file) (family_of g.file) → k ≤ region_count (family_of g.file)
-  pub shortest_answered : (f g : AcceptedFile) (out : List ℕ) (l k : ℕ) → ReduceAnswers f.file out (made.Written l k)
-      → Alike (family_of f.file) (family_of g.file) → l ≤ length g.file
+  pub fewest_answered : (f g : AcceptedFile) (out : List ℕ) (size : Size) → ReduceAnswers f.file out (Ok size)
+      → Alike (family_of f.file) (family_of g.file) → size.regions ≤ region_count (family_of g.file)
+  pub shortest_answered : (f g : AcceptedFile) (out : List ℕ) (size : Size) → ReduceAnswers f.file out (Ok size)
+      → Alike (family_of f.file) (family_of g.file) → size.length ≤ length g.file
   -- By its promise `same` says yes exactly when the two families are alike,
-  pub alike_if_same : (f g : AcceptedFile) (r : Compared) → SameAnswers f.file g.file r → r ≡ compared.Same → Alike (family_of f.file) (family_of g.file)
-  pub same_if_alike : (f g : AcceptedFile) (r : Compared) → SameAnswers f.file g.file r → Alike (family_of f.file) (family_of g.file) → r ≡ compared.Same
+  pub alike_if_same : (f g : AcceptedFile) (r : Result Bool PairRefusal) → SameAnswers f.file g.file r → r ≡ Ok true → Alike (family_of f.file) (family_of g.file)
+  pub same_if_alike : (f g : AcceptedFile) (r : Result Bool PairRefusal) → SameAnswers f.file g.file r → Alike (family_of f.file) (family_of g.file) → r ≡ Ok true
   -- and no, not a refusal, when they are not; so for different m it is a plain no,
-  pub no_if_unlike : (f g : AcceptedFile) (r : Compared) → SameAnswers f.file g.file r → (Alike (family_of f.file) (family_of g.file) → ⊥) → r ≡ compared.Different
-  pub no_if_other_m : (f g : AcceptedFile) (r : Compared) → SameAnswers f.file g.file r → ((family_of f.file).peptides ≡ (family_of g.file).peptides → ⊥) → r ≡ compared.Different
+  pub no_if_unlike : (f g : AcceptedFile) (r : Result Bool PairRefusal) → SameAnswers f.file g.file r → (Alike (family_of f.file) (family_of g.file) → ⊥) → r ≡ Ok false
+  pub no_if_other_m : (f g : AcceptedFile) (r : Result Bool PairRefusal) → SameAnswers f.file g.file r → ((family_of f.file).peptides ≡ (family_of g.file).peptides → ⊥) → r ≡ Ok false
   -- and yes exactly when they have the same bounds.
-  pub same_bounds_if_same : (f g : AcceptedFile) (r : Compared) → SameAnswers f.file g.file r → r ≡ compared.Same → SameBounds (family_of f.file) (family_of g.file)
-  pub same_if_same_bounds : (f g : AcceptedFile) (r : Compared) → SameAnswers f.file g.file r → SameBounds (family_of f.file) (family_of g.file) → r ≡ compared.Same
+  pub same_bounds_if_same : (f g : AcceptedFile) (r : Result Bool PairRefusal) → SameAnswers f.file g.file r → r ≡ Ok true → SameBounds (family_of f.file) (family_of g.file)
+  pub same_if_same_bounds : (f g : AcceptedFile) (r : Result Bool PairRefusal) → SameAnswers f.file g.file r → SameBounds (family_of f.file) (family_of g.file) → r ≡ Ok true
 
 -- The promises.
 
@@ -104,63 +103,62 @@ module _ (f : AcceptedFile) (out : List ℕ) (room : length f.file ≤ length ou
   no_cause : first_cause (reduce_causes f.file out) ≡ 0
   no_cause = output_suffices f.file out f.accepted room
 
-  reduces_to : (r : ReducedFile) (new : List ℕ) → ReduceAnswers f.file out r → ReduceWrites f.file out new → WrittenAt f.file out r new
-  unfolding report_reduced reduced_counts
-  reduces_to (made.Written l k) new p w =
+  reduces_to : (r : Result Size Refusal) (new : List ℕ) → ReduceAnswers f.file out r → ReduceWrites f.file out new → WrittenAt f.file out r new
+  unfolding reduced_counts
+  reduces_to (Ok size) new p w =
       let s = reduced_file f.file in
-      let e = p ∙ answers (reduce_causes f.file out) no_cause (reduced_counts f.file) in
-      let there : l ≡ length s = cc (ap (λ (r : Report). r.values) e, length_said f) in
+      let e = (learns_ok size_values (reduce_causes f.file out) (reduced_counts f.file) size p).1 in
+      let there : size.length ≡ length s = cc (e, length_said f) in
       let left = w ∙ writes (reduce_causes f.file out) no_cause s out in
       record {
-        bytes = l;
-        regions = k;
+        bytes = size.length;
+        regions = size.regions;
         counted = refl;
         whole = there;
         said_bytes = there ∙ sym (length_said f);
-        said = cc (ap (λ (r : Report). r.values) e);
-        start = ap (take l) left ∙ take_at s (drop (length s) out) l (sym there);
-        rest = ap (drop l) left ∙ drop_at s (drop (length s) out) l (sym there) ∙ ap (λ (n : ℕ). drop n out) (sym there);
+        said = cc e;
+        start = ap (take size.length) left ∙ take_at s (drop (length s) out) size.length (sym there);
+        rest = ap (drop size.length) left ∙ drop_at s (drop (length s) out) size.length (sym there) ∙ ap (λ (n : ℕ). drop n out) (sym there);
       }
-  reduces_to (made.Refused n) new p w =
-      let e = ap (λ (r : Report). length r.values) (p ∙ answers (reduce_causes f.file out) no_cause (reduced_counts f.file)) in
-      absurd (omega arith)
+  reduces_to (Err e) new p w = absurd (some_holds e (reduce_causes f.file out) (learns_err size_values (reduce_causes f.file out) (reduced_counts f.file) e p).0 no_cause)
 
 -- an answer that has a length and a K has those of the reduced file
-counts_said : (f : AcceptedFile) (out : List ℕ) (l k : ℕ) → ReduceAnswers f.file out (made.Written l k)
-    → (l ≡ length (reduced_file f.file)) × (k ≡ region_count (family_of (reduced_file f.file)))
-unfolding report_reduced reduced_counts
-counts_said f out l k p =
+counts_said : (f : AcceptedFile) (out : List ℕ) (size : Size) → ReduceAnswers f.file out (Ok size)
+    → (size.length ≡ length (reduced_file f.file)) × (size.regions ≡ region_count (family_of (reduced_file f.file)))
+unfolding reduced_counts
+counts_said f out size p =
     let s = reduced_file f.file in
-    let e = (learns_values (reduce_causes f.file out) 0 l (k ∷ []) (reduced_counts f.file) p).1 in
+    let e = (learns_ok size_values (reduce_causes f.file out) (reduced_counts f.file) size p).1 in
     (cc (e, length_said f), cc (e, regions_read s))
 
 module _ (f g : AcceptedFile) where
   abbrev equal : Bool
   equal = same_list (reduced_file f.file) (reduced_file g.file)
 
-  -- the answer is 1 or 0
-  says : (r : Compared) → SameAnswers f.file g.file r → (report_compared r).values ≡ bit equal ∷ []
+  -- the answer is yes or no, and right
+  says : (r : Result Bool PairRefusal) → SameAnswers f.file g.file r → r ≡ Ok equal
   unfolding comparison
-  says r p =
-      ap (λ (r : Report). r.values)
-      (p ∙ answers (compare_causes f.file g.file) (both_accepted f.file g.file f.accepted g.accepted) (comparison f.file g.file))
+  says r p = told r (p ∙ answers (compare_causes f.file g.file) (both_accepted f.file g.file f.accepted g.accepted) (comparison f.file g.file))
+    where
+      bits : (a b : Bool) → ◌≡◌ {A = List ℕ} (bit a ∷ []) (bit b ∷ []) → a ≡ b
+      bits true true e = refl
+      bits false false e = refl
+      bits true false e = let z : ◌≡◌ {A = ℕ} 1 0 = cc e in absurd (omega arith)
+      bits false true e = let z : ◌≡◌ {A = ℕ} 0 1 = cc e in absurd (omega arith)
 
-  says_equal : (r : Compared) → SameAnswers f.file g.file r → r ≡ compared.Same → reduced_file f.file ≡ reduced_file g.file
-  unfolding report_compared
-  says_equal r p e =
-      let v : ◌≡◌ {A = List ℕ} (1 ∷ []) (bit equal ∷ []) = sym (ap (λ (r : Compared). (report_compared r).values) e) ∙ says r p in
-      ⊎_elim
-      (λ t. same_equal (reduced_file f.file) (reduced_file g.file) t)
-      (λ t. let z : ◌≡◌ {A = ℕ} 1 0 = cc (v, ap bit t) in absurd (omega arith))
-      (test equal)
+      told : (r : Result Bool PairRefusal) → report_compared r ≡ record { number = 0; values = bit equal ∷ [] } → r ≡ Ok equal
+      told (Ok same) e = ap Ok (bits same equal (ap (λ (r : Report). r.values) e))
+      told (Err e) h = absurd (pair_some e (ap (λ (r : Report). r.number) h))
 
-  equal_says : (r : Compared) → SameAnswers f.file g.file r → reduced_file f.file ≡ reduced_file g.file → r ≡ compared.Same
-  unfolding report_compared
-  equal_says compared.Same p e = refl
-  equal_says compared.Different p e =
-      let z : ◌≡◌ {A = ℕ} 0 1 = cc (says compared.Different p, ap bit (same_is (reduced_file f.file) (reduced_file g.file) e)) in
-      absurd (omega arith)
-  equal_says (compared.Refused n) p e = let z = ap length (says (compared.Refused n) p) in absurd (omega arith)
+  abbrev same_in : Result Bool PairRefusal → Bool
+  same_in (Ok same) = same
+  same_in (Err e) = false
+
+  says_equal : (r : Result Bool PairRefusal) → SameAnswers f.file g.file r → r ≡ Ok true → reduced_file f.file ≡ reduced_file g.file
+  says_equal r p e = same_equal (reduced_file f.file) (reduced_file g.file) (ap same_in (sym (says r p) ∙ e))
+
+  equal_says : (r : Result Bool PairRefusal) → SameAnswers f.file g.file r → reduced_file f.file ≡ reduced_file g.file → r ≡ Ok true
+  equal_says r p e = says r p ∙ ap Ok (same_is (reduced_file f.file) (reduced_file g.file) e)
 
 -- Two accepted files.
 module _ (f g : AcceptedFile) where
@@ -186,11 +184,8 @@ module _ (f g : AcceptedFile) where
   smallest = smallest_file f.file g.file f.bytes g.bytes f.accepted g.accepted
 
 -- no, and not a refusal
-says_no : (f g : AcceptedFile) (r : Compared) → SameAnswers f.file g.file r → (Alike (family_of f.file) (family_of g.file) → ⊥) → r ≡ compared.Different
-unfolding report_compared
-says_no f g compared.Same p unlike = absurd (unlike (equal_alike f g (says_equal f g compared.Same p refl)))
-says_no f g compared.Different p unlike = refl
-says_no f g (compared.Refused n) p unlike = let z = ap length (says f g (compared.Refused n) p) in absurd (omega arith)
+says_no : (f g : AcceptedFile) (r : Result Bool PairRefusal) → SameAnswers f.file g.file r → (Alike (family_of f.file) (family_of g.file) → ⊥) → r ≡ Ok false
+says_no f g r p unlike = says f g r p ∙ ap Ok (not_same (reduced_file f.file) (reduced_file g.file) (λ e. unlike (equal_alike f g e)))
 
 pub demand_three : DemandThree
 demand_three =
@@ -212,8 +207,8 @@ demand_three =
       shortest = λ f g a. (smallest f g a).1;
       fits = λ f. reduced_file_fits f.file f.bytes f.accepted;
       reduces = λ f out new r room. reduces_to f out room r new;
-      fewest_answered = λ f g out l k p a. omega (arith, (counts_said f out l k p).1, (smallest f g a).0.regions);
-      shortest_answered = λ f g out l k p a. omega (arith, (counts_said f out l k p).0, (smallest f g a).1);
+      fewest_answered = λ f g out size p a. omega (arith, (counts_said f out size p).1, (smallest f g a).0.regions);
+      shortest_answered = λ f g out size p a. omega (arith, (counts_said f out size p).0, (smallest f g a).1);
       alike_if_same = λ f g r p e. equal_alike f g (says_equal f g r p e);
       same_if_alike = λ f g r p a. equal_says f g r p (alike_equal f g a);
       no_if_unlike = says_no;

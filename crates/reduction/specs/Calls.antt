@@ -1,26 +1,38 @@
 -- What the calls of `reduction` answer and write, defined from their inputs.
-use Rattle.std.specs.Prelude.{ℕ, ◌+◌, cond, List, [], ◌∷◌, ◌++◌, map, ◌≡◌, length}
+use Rattle.std.specs.Prelude.{ℕ, ◌+◌, Bool, cond, Result, Ok, Err, List, [], ◌∷◌, ◌++◌, map, ◌≡◌, length}
 use Rattle.reader.specs.Lists.{same_list}
 use Rattle.reader.specs.Bytes.{number_at}
 use Rattle.reader.specs.Causes.{Cause, file_causes}
-use Rattle.reader.specs.Calls.{Report, answer, written, short}
+use Rattle.reader.specs.declared.refusal.Refusal.{Refusal}
+use Rattle.reader.specs.Refusals.{number_of, beside, Report, report}
+use Rattle.reader.specs.Calls.{answer, written, short}
 use Rattle.reduction.specs.Reduction.{reduced_file}
-use Rattle.reduction.specs.declared.ReducedFile.{ReducedFile}
-use Rattle.reduction.specs.declared.ReducedFile.TheVariants as made
-use Rattle.reduction.specs.declared.Compared.{Compared}
-use Rattle.reduction.specs.declared.Compared.TheVariants as compared
+use Rattle.reduction.specs.declared.Size.{Size}
+use Rattle.reduction.specs.declared.PairRefusal.{PairRefusal}
+use Rattle.reduction.specs.declared.PairRefusal.TheVariants.{First, Second}
 
--- The number and the values of each case of an answer.
+-- the number of a cause of two families
+abbrev pub pair_number : PairRefusal → ℕ
+pair_number (First e) = number_of e
+pair_number (Second e) = number_of e + 100
 
-unfoldable pub report_reduced : ReducedFile → Report
-report_reduced (made.Written bytes regions) = record { number = 0; values = bytes ∷ regions ∷ [] }
-report_reduced (made.Refused n) = record { number = n; values = [] }
+-- what is returned beside it
+abbrev pub pair_beside : PairRefusal → List ℕ
+pair_beside (First e) = beside e
+pair_beside (Second e) = beside e
+
+-- The number and the values of each answer.
+
+abbrev pub size_values : Size → List ℕ
+size_values size = size.length ∷ size.regions ∷ []
+
+abbrev pub report_reduced : Result Size Refusal → Report
+report_reduced r = report size_values r
 
 -- yes is 1, no is 0
-unfoldable pub report_compared : Compared → Report
-report_compared compared.Same = record { number = 0; values = 1 ∷ [] }
-report_compared compared.Different = record { number = 0; values = 0 ∷ [] }
-report_compared (compared.Refused n) = record { number = n; values = [] }
+abbrev pub report_compared : Result Bool PairRefusal → Report
+report_compared (Ok same) = record { number = 0; values = cond same 1 0 ∷ [] }
+report_compared (Err e) = record { number = pair_number e; values = pair_beside e }
 
 -- reduction output under the family's length
 unfoldable pub reduce_causes : List ℕ → List ℕ → List Cause
@@ -42,7 +54,7 @@ comparison first second = cond (same_list (reduced_file first) (reduced_file sec
 -- What the calls promise. The theorem of demand 3 (`DemandThree`) rests on these promises.
 
 -- the answer r of `reduce`
-abbrev pub ReduceAnswers : List ℕ → List ℕ → ReducedFile → Type 0
+abbrev pub ReduceAnswers : List ℕ → List ℕ → Result Size Refusal → Type 0
 ReduceAnswers file out r = report_reduced r ≡ answer (reduce_causes file out) (reduced_counts file)
 
 -- what it leaves in the output
@@ -50,5 +62,5 @@ abbrev pub ReduceWrites : List ℕ → List ℕ → List ℕ → Type 0
 ReduceWrites file out new = new ≡ written (reduce_causes file out) (reduced_file file) out
 
 -- the answer r of `same`
-abbrev pub SameAnswers : List ℕ → List ℕ → Compared → Type 0
+abbrev pub SameAnswers : List ℕ → List ℕ → Result Bool PairRefusal → Type 0
 SameAnswers first second r = report_compared r ≡ answer (compare_causes first second) (comparison first second)

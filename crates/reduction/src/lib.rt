@@ -11,49 +11,38 @@ ghost use Rattle.reader.specs.Family.{family_of};
 ghost use Rattle.reader.specs.Causes.{Accepted};
 ghost use Rattle.reduction.specs.Reduction.{reduced_file};
 ghost use Rattle.reduction.specs.Private.Steps.{Begins, live_bytes, Parented, Totalled};
-ghost use Rattle.reduction.specs.Calls.{ReduceAnswers, ReduceWrites, SameAnswers};
+ghost use Rattle.reduction.specs.Calls.{pair_number, ReduceAnswers, ReduceWrites, SameAnswers};
 ghost use Rattle.reduction.specs.Private.Writing.{Wrote};
-ghost use Rattle.reduction.specs.Private.FileChecks.{FileJudged};
 
 use keep::list_reduced;
-use reader::Checked;
 use reader::family::peptide_count;
+use reader::refusal::Refusal;
 use stretch::{Stretch, find_stretches};
 use write::write_reduced;
 
-// The reduced file's length and number of regions, or the number of the first cause that holds.
-#[derive(Clone, Copy)]
-pub enum ReducedFile {
-    Written { length: u16, regions: u16 },
-    Refused(u16),
-}
-
-// Whether two reductions are equal, or the number of the first cause that holds.
-#[derive(Clone, Copy)]
-pub enum Compared {
-    Same,
-    Different,
-    Refused(u16),
-}
-
 // The length of a reduced file and its number of regions.
-#[derive(Clone, Copy)]
-pub(crate) struct Size {
-    pub bytes: u16,
+#[derive(Clone, Copy, PartialEq, Eq)]
+pub struct Size {
+    pub length: u16,
     pub regions: u16,
 }
 
-// The first of the causes 1 to 10 that holds, or 0 with the parents of the regions written.
-fn file_cause(file: &[u8], parents: &mut [u16; 8191]) -> u16
-    ensures { FileJudged file.now parents.new result }
-{
-    match reader::parents(file, parents) {
-        Checked::Family {
-            peptides: _,
-            leaves: _,
-            regions: _,
-        } => 0,
-        Checked::Refused(number) => number,
+// The cause for which two families are not compared: one of the first, or of the second where the first has none.
+#[derive(Clone, Copy, PartialEq, Eq)]
+pub enum PairRefusal {
+    First(Refusal),
+    Second(Refusal),
+}
+
+// The number of the cause, as the table of docs/SCOPE.md has it; a cause of the second family has 100 added.
+impl From<PairRefusal> for u16 {
+    ghost from_gives = { λ refusal number. number ≡ pair_number refusal };
+
+    fn from(refusal: PairRefusal) -> u16 {
+        match refusal {
+            PairRefusal::First(refusal) => u16::from(refusal),
+            PairRefusal::Second(refusal) => u16::from(refusal) + 100,
+        }
     }
 }
 
@@ -64,7 +53,8 @@ fn live_totals(file: &[u8], live: &[u8; 4096], totals: &mut [u16; 8191])
     ensures { Totalled file.now totals.new }
 {
     let m = peptide_count(file) as usize;
-    bounds::inside_totals(file, &live[..m], totals);
+    // no cause holds, and the bound of all live peptides is not needed
+    let _ = bounds::inside_totals(file, &live[..m], totals);
 }
 
 // Reduces an accepted file. What is not needed at one time shares a place, which keeps the stack small: `from` and `to`
@@ -73,7 +63,7 @@ fn live_totals(file: &[u8], live: &[u8; 4096], totals: &mut [u16; 8191])
 fn reduce_accepted(file: &[u8], parents: &mut [u16; 8191], out: &mut [u8]) -> Size
     requires parented { Parented file.now parents.old }
     requires file_in_bounds { length file.now ≤ length out.old }
-    ensures { Wrote file.now out.old out.new result.bytes result.regions }
+    ensures { Wrote file.now out.old out.new result.length result.regions }
 {
     let mut live = [0u8; 4096];
     let mut stretches = [Stretch { first: 0, last: 0 }; 8191];
@@ -89,23 +79,16 @@ fn reduce_accepted(file: &[u8], parents: &mut [u16; 8191], out: &mut [u8]) -> Si
 }
 
 // Writes the reduced file at the start of the output, which must be as long as the family. A declined call writes nothing.
-pub fn reduce(file: &[u8], out: &mut [u8]) -> ReducedFile
+pub fn reduce(file: &[u8], out: &mut [u8]) -> Result<Size, Refusal>
     ensures reduce_answers { ReduceAnswers file.now out.old result }
     ensures reduce_writes { ReduceWrites file.now out.old out.new }
 {
     let mut parents = [0u16; 8191];
-    let cause = file_cause(file, &mut parents);
-    if cause != 0 {
-        return ReducedFile::Refused(cause);
-    }
+    reader::parents(file, &mut parents)?;
     if out.len() < file.len() {
-        return ReducedFile::Refused(16);
+        return Err(Refusal::Room);
     }
-    let size = reduce_accepted(file, &mut parents, out);
-    ReducedFile::Written {
-        length: size.bytes,
-        regions: size.regions,
-    }
+    Ok(reduce_accepted(file, &mut parents, out))
 }
 
 // Whether the reductions of two accepted files are equal.
@@ -115,34 +98,24 @@ fn same_reduced(
     second: &[u8],
     second_parents: &mut [u16; 8191],
 ) -> bool
-    requires parented { Parented first.now first_parents.old }
-    requires parented_2 { Parented second.now second_parents.old }
+    requires first_parented { Parented first.now first_parents.old }
+    requires second_parented { Parented second.now second_parents.old }
     ensures { result ≡ same_list (reduced_file first.now) (reduced_file second.now) }
 {
     let mut one = [0u8; 57354];
     let first_size = reduce_accepted(first, first_parents, &mut one);
     let mut other = [0u8; 57354];
     let second_size = reduce_accepted(second, second_parents, &mut other);
-    one[..first_size.bytes as usize] == other[..second_size.bytes as usize]
+    one[..first_size.length as usize] == other[..second_size.length as usize]
 }
 
 // Whether two families have the same reduced file, which they have exactly when they have the same curves.
-pub fn same(first: &[u8], second: &[u8]) -> Compared
+pub fn same(first: &[u8], second: &[u8]) -> Result<bool, PairRefusal>
     ensures { SameAnswers first.now second.now result }
 {
     let mut first_parents = [0u16; 8191];
-    let first_cause = file_cause(first, &mut first_parents);
-    if first_cause != 0 {
-        return Compared::Refused(first_cause);
-    }
+    reader::parents(first, &mut first_parents).map_err(PairRefusal::First)?;
     let mut second_parents = [0u16; 8191];
-    let second_cause = file_cause(second, &mut second_parents);
-    if second_cause != 0 {
-        return Compared::Refused(second_cause + 100);
-    }
-    if same_reduced(first, &mut first_parents, second, &mut second_parents) {
-        Compared::Same
-    } else {
-        Compared::Different
-    }
+    reader::parents(second, &mut second_parents).map_err(PairRefusal::Second)?;
+    Ok(same_reduced(first, &mut first_parents, second, &mut second_parents))
 }

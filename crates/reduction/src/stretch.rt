@@ -1,6 +1,6 @@
 // The live peptides, and the first and last live peptide of each region: passes over the leaves, the regions and
 // the peptides, each linear.
-ghost use Rattle.std.specs.Prelude.{◌≡◌, cond, ◌+◌, ◌≤◌, length, eqb};
+ghost use Rattle.std.specs.Prelude.{◌≡◌, ◌+◌, ◌≤◌};
 ghost use Rattle.reader.specs.Family.{family_of, region_count};
 ghost use Rattle.bounds.specs.Selections.{selected};
 ghost use Rattle.reduction.specs.Private.Steps.{Parented, Stretched, firsts_of, lasts_of};
@@ -10,14 +10,16 @@ use reader::family::{
     Leaf, Peptide, leaf_count, leaf_length, peptide_count, region_count, region_of,
 };
 
-// The low and high ends of the regions. Two arrays and not one of pairs, as their places serve other numbers too.
+// The low and high ends of the regions. Two arrays and not one of pairs, as their places hold other numbers afterwards (fixed
+// memory).
 #[derive(Clone, Copy)]
 struct RegionEnds<'a> {
     lows: &'a [u16; 8191],
     highs: &'a [u16; 8191],
 }
 
-// The first and the last live peptide of a region with z ≥ 1; both 0 if z is 0 or there is none.
+// The first and the last live peptide of a region with z ≥ 1; both 0 if z is 0 or there is none. Numbers and not options, which
+// would take twice the memory.
 #[derive(Clone, Copy, PartialEq, Eq)]
 pub(crate) struct Stretch {
     pub first: u16,
@@ -47,13 +49,6 @@ fn begin_regions(
     regions
 }
 
-// Returns the number of the innermost open region: the last one that has begun here, or the one that was open.
-fn innermost(before: u16, begun: u16, outer: u16) -> u16
-    ensures { result ≡ cond (eqb before begun) outer begun }
-{
-    if before == begun { outer } else { begun }
-}
-
 // Writes the high ends of the regions that end at the leaf, whose last peptide is known: the innermost open region,
 // then its parents, since what is around an open region is open. Returns the number of the innermost one
 // that stays open.
@@ -81,7 +76,8 @@ fn end_regions(
     0
 }
 
-// The low and high ends of every region. Each begins and ends once, so the pass is linear in leaves and regions.
+// The low and high ends of every region. Each begins and ends once, so the pass is linear in leaves and regions. The innermost
+// open region is the last one that begins at the leaf; where none does, it is the one that was open.
 fn find_ends(file: &[u8], parents: &[u16; 8191], lows: &mut [u16; 8191], highs: &mut [u16; 8191])
     requires { WithParents (family_of file.now) parents.now }
     ensures { Ends (family_of file.now) lows.new highs.new }
@@ -91,7 +87,9 @@ fn find_ends(file: &[u8], parents: &[u16; 8191], lows: &mut [u16; 8191], highs: 
     let mut inner = 0;
     for passed in 0..leaf_count(file) {
         let now_begun = begin_regions(file, Leaf(passed), Peptide(peptide), begun, lows);
-        inner = innermost(begun, now_begun, inner);
+        if begun < now_begun {
+            inner = now_begun;
+        }
         let leaf = Leaf(passed + 1);
         peptide += leaf_length(file, leaf);
         inner = end_regions(file, parents, leaf, Peptide(peptide), inner, highs);
@@ -99,8 +97,8 @@ fn find_ends(file: &[u8], parents: &[u16; 8191], lows: &mut [u16; 8191], highs: 
     }
 }
 
-// The live peptides: all but those of the regions with z = 0. These regions begin in rising order, so what is dead from
-// the low end of one on reaches as far as any of them so far: only the peptides beyond that are marked.
+// The live peptides: all but those of the regions with z = 0. Regions begin in rising order, so from the low end of one on the
+// peptides up to the farthest end so far are marked already; only those beyond it are marked.
 fn find_live(file: &[u8], ends: RegionEnds, live: &mut [u8; 4096])
     requires { Ended (family_of file.now) ends.lows.now ends.highs.now }
     ensures { LiveUpTo (family_of file.now) (family_of file.now).peptides live.new }

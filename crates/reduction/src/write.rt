@@ -127,7 +127,7 @@ pub(crate) fn write_reduced(
     requires accepted { Accepted file.now }
     requires listed { Listed file.now n from.now to.now bounds.now }
     requires file_in_bounds { length file.now ≤ length out.old }
-    ensures { Wrote file.now out.old out.new result.bytes result.regions }
+    ensures { Wrote file.now out.old out.new result.length result.regions }
 {
     let count = n as usize;
     let ranges = Ranges {
@@ -143,7 +143,7 @@ pub(crate) fn write_reduced(
     write_lengths(m, &borders, out);
     write_regions(ranges, &borders, 16 + 2 * leaves as usize, out);
     Size {
-        bytes: total,
+        length: total,
         regions: n,
     }
 }

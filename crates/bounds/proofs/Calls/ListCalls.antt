@@ -10,7 +10,7 @@ use borrow.Author.Tests.{ltb-false, le-ltb, ne_eqb}
 use Rattle.reader.specs.Family.{family_of, region_count}
 use Rattle.reader.specs.Causes.{Cause, first_cause, file_causes, Accepted}
 use Rattle.reader.specs.Calls.{written, short}
-use Rattle.reader.proofs.First.{head_clear, join_clear, join_holds, clear_left, clear_right, writes, leaves_unchanged}
+use Rattle.reader.proofs.First.{head_clear, join_clear, clear_left, clear_right, writes}
 use Rattle.reader.proofs.Accepting.{file_numbered}
 use Rattle.reader.proofs.Lists.{length_tabulate}
 use Rattle.bounds.specs.SelectionLists.{list_bounds, list_cause14, cause24}
@@ -28,10 +28,6 @@ unfolding list_inputs short cause24 cause25 added first_cause
 inputs_judged m K selections count tally room = refl
 
 module _ (file selections : List ℕ) (count tally room : ℕ) where
-  pub list_of_refused : (first_cause (file_causes file) ≡ 0 → ⊥) → first_cause (list_causes file selections count tally room) ≡ first_cause (file_causes file)
-  unfolding list_causes
-  list_of_refused h = join_holds (file_causes file) _ h
-
   pub list_of_accepted : Accepted file
       → first_cause (list_causes file selections count tally room)
       ≡ first_cause (list_inputs (family_of file).peptides (region_count (family_of file)) selections count tally room)
@@ -97,10 +93,6 @@ module _ (file selections values : List ℕ) (count tally : ℕ) where
   causes = list_causes file selections count tally (length values)
 
   -- The values.
-
-  pub list_unchanged : (n : ℕ) → n ≡ first_cause causes → (n ≡ 0 → ⊥)
-      → values ≡ written causes (list_bounds (family_of file) selections count) values
-  list_unchanged n e h = sym (leaves_unchanged causes (λ z. h (e ∙ z)) (list_bounds (family_of file) selections count) values)
 
   pub list_written : (after : List ℕ) → first_cause causes ≡ 0
       → after ≡ list_bounds (family_of file) selections count ++ drop count values

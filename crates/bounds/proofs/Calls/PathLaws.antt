@@ -10,6 +10,9 @@ use lib.ListN.{length, get_or, set}
 use lib.Seq.{get_or-set_same, get_or-set_other}
 use lib.Dec.{eqb, ltb}
 use borrow.Author.Tests.{ltb-false, eqb-true, eqb-false, eq-eqb, ne_eqb}
+use Rattle.std.specs.Prelude.{Result, Ok, Err}
+use Rattle.reader.specs.declared.refusal.Refusal.{Refusal}
+use Rattle.reader.specs.Refusals.{number_of, beside}
 use Rattle.reader.specs.Lists.{some_below, first_below}
 use Rattle.reader.specs.Bytes.{IsBytes}
 use Rattle.reader.specs.Family.{Family, family_of, region_count}
@@ -19,11 +22,12 @@ use Rattle.reader.proofs.Bools.{or_fails_l, or_fails_r}
 use Rattle.reader.proofs.Below.{none_at, none_below, first_at_lem, first_none}
 use Rattle.reader.proofs.First.{Numbered, head_clear, join_clear, join_holds, clear_left, clear_right}
 use Rattle.reader.proofs.Judged.{peptides_counted}
+use Rattle.reader.proofs.Refusals.{nothing_beside, some_holds}
 use Rattle.reader.proofs.Accepting.{well_formed_lem, accepted_header, few_regions, file_numbered}
 use Rattle.bounds.specs.Curves.{cause11, cause12, repeated, cause13, first_repeat}
 use Rattle.bounds.specs.Calls.{path_causes, IsPath, input_causes, path_refusal}
-use Rattle.bounds.specs.Private.Walks.{number_cause, Walkable, Distinct, InputRefused}
-use Rattle.bounds.proofs.Basics.Members.{test, clash, or_r, bit}
+use Rattle.bounds.specs.Private.Walks.{number_cause, Walkable, Distinct, InputRefused, Admission, Differing}
+use Rattle.bounds.proofs.Basics.Members.{test, clash, or_r}
 
 -- The first number that passes a test.
 
@@ -62,11 +66,11 @@ first_zero n p h = ⊎_elim (λ t. let f = first_found n p t in absurd (omega (a
 abbrev pub stands : List ℕ → ℕ → ℕ → Bool
 stands path t q = some_below t (λ i. eqb (get_or path i 0) q)
 
--- the list has 1 for each peptide that stands at one of the first t places, else 0
-abbrev pub Seen : List ℕ → ℕ → List ℕ → Type 0
-Seen path t S = (q : ℕ) → q < 4097 → get_or S q 0 ≡ bit (stands path t q)
+-- the list says of each peptide whether it stands at one of the first t places
+abbrev pub Seen : List ℕ → ℕ → List Bool → Type 0
+Seen path t S = (q : ℕ) → q < 4097 → get_or S q false ≡ stands path t q
 
-pub seen_none : (path S : List ℕ) → ((q : ℕ) → q < 4097 → get_or S q 0 ≡ 0) → Seen path 0 S
+pub seen_none : (path : List ℕ) (S : List Bool) → ((q : ℕ) → q < 4097 → get_or S q false ≡ false) → Seen path 0 S
 unfolding some_below
 seen_none path S h q l = h q l
 
@@ -74,12 +78,13 @@ pub or_false : (b : Bool) → (b || false) ≡ b
 or_false true = refl
 or_false false = refl
 
-pub seen_more : (path S : List ℕ) (t p : ℕ) → length S ≡ 4097 → Seen path t S → p ≡ get_or path t 0 → p < 4097 → Seen path (t + 1) (set S p 1)
+pub seen_more : (path : List ℕ) (S : List Bool) (t p : ℕ) → length S ≡ 4097 → Seen path t S → p ≡ get_or path t 0 → p < 4097
+    → Seen path (t + 1) (set S p true)
 unfolding some_below
 seen_more path S t p len seen e fits q l =
     ⊎_elim
-    (λ same. rw (add-one, ← e, same, eq-eqb p p refl, get_or-set_same S p 1 0 (omega arith)) (sym (ap bit (or_r (stands path t p) true refl))))
-    (λ other. rw (add-one, ← e, ne_eqb p q (λ d. eqb-false q p other (sym d)), get_or-set_other S p q 1 0 (eqb-false q p other)) (seen q l ∙ sym (ap bit (or_false (stands path t q)))))
+    (λ same. rw (add-one, ← e, same, eq-eqb p p refl, get_or-set_same S p true false (omega arith)) (sym (or_r (stands path t p) true refl)))
+    (λ other. rw (add-one, ← e, ne_eqb p q (λ d. eqb-false q p other (sym d)), get_or-set_other S p q true false (eqb-false q p other)) (seen q l ∙ sym (or_false (stands path t q))))
     (is q p)
   where
     is : (q p : ℕ) → (q ≡ p) ⊎ (eqb q p ≡ false)
@@ -90,14 +95,6 @@ pub repeated_seen : (path : List ℕ) (t : ℕ) → repeated path (t + 1) ≡ st
 unfolding repeated
 repeated_seen path t = let back : t + 1 - 1 ≡ t = omega arith in rw back
 
-pub bit_some : (b : Bool) → (bit b ≡ 0 → ⊥) → b ≡ true
-bit_some true h = refl
-bit_some false h = absurd (h refl)
-
-pub bit_none : (b : Bool) → bit b ≡ 0 → b ≡ false
-bit_none true h = absurd (omega arith)
-bit_none false h = refl
-
 -- The first repeat.
 
 module _ (path : List ℕ) where
@@ -105,9 +102,9 @@ module _ (path : List ℕ) where
   unfolding first_repeat
   repeat_at_lem t l here before = rw add-one (sym (first_at_lem (λ i. repeated path (i + 1)) (length path) t l here before))
 
-  pub repeat_none : ((i : ℕ) → i < length path → repeated path (i + 1) ≡ false) → 0 ≡ first_repeat path
-  unfolding first_repeat
-  repeat_none h = sym (first_none (λ i. repeated path (i + 1)) (length path) (none_below (λ i. repeated path (i + 1)) (length path) h))
+  pub repeat_none : ((i : ℕ) → i < length path → repeated path (i + 1) ≡ false) → cause13 path ≡ false
+  unfolding cause13
+  repeat_none h = none_below (λ i. repeated path (i + 1)) (length path) h
 
   pub all_different : first_repeat path ≡ 0 → cause13 path ≡ false
   unfolding first_repeat cause13
@@ -229,13 +226,21 @@ module _ (s path : List ℕ) where
       omega (arith, path_most (family_of s).peptides path k.1, (peptides_counted (family_of s).peptides (accepted_header s k.0).no2).1)
 
   -- the refusal with a number other than 13, and with 13
-  pub input_refused : (n : ℕ) → n ≡ first_cause (input_causes s path) → (n ≡ 0 → ⊥) → (n ≡ 13 → ⊥) → InputRefused s path (record { number = n; values = [] })
+  bare : (n : ℕ) → (n ≡ 13 → ⊥) → record { number = n; values = [] } ≡ path_refusal path n
   unfolding path_refusal
-  input_refused n e some other = record { some = λ z. some (e ∙ z); told = rw (← e, ne_eqb n 13 other) }
+  bare n other = rw (ne_eqb n 13 other)
 
-  pub input_repeats : (p : ℕ) → first_cause (input_causes s path) ≡ 13 → p ≡ first_repeat path → InputRefused s path (record { number = 13; values = p ∷ [] })
+  pub input_refused : (e : Refusal) → number_of e ≡ first_cause (input_causes s path) → (number_of e ≡ 13 → ⊥)
+      → InputRefused s path (record { number = number_of e; values = beside e })
+  input_refused e h other =
+      record {
+        some = some_holds e _ h;
+        told = ap (λ (l : List ℕ). record { number = number_of e; values = l }) (nothing_beside e other) ∙ bare (number_of e) other ∙ ap (path_refusal path) h;
+      }
+
+  pub input_repeats : first_cause (input_causes s path) ≡ 13 → InputRefused s path (record { number = 13; values = first_repeat path ∷ [] })
   unfolding path_refusal
-  input_repeats p e h = record { some = λ z. omega arith; told = rw (e, h) }
+  input_repeats e = record { some = λ z. omega arith; told = rw e }
 
   -- what a walk goes by
   pub walkable :
@@ -250,3 +255,9 @@ module _ (s path : List ℕ) where
         short = path_short F.peptides path n;
         different = is_path F.peptides path n d;
       }
+
+  -- the answer, by what is found of the repeats where nothing else declines
+  pub by_repeats : (P : List ℕ) (r : Result (Unit {0}) Refusal) → Accepted s → number_cause (family_of s).peptides path ≡ 0
+      → (cause13 path ≡ false → Walkable (family_of s) path P) → Differing path r → Admission s path P r
+  by_repeats P (Ok done) a n walk d = (input_path a ∙ path_none (family_of s).peptides path n d, walk d)
+  by_repeats P (Err e) a n walk d = rw d.1 (input_repeats (input_path a ∙ path_13 (family_of s).peptides path n d.0))

@@ -7,24 +7,23 @@ use native.Mathlib.Omega.{arith}
 use lib.Dec.{ltb}
 use lib.ListN.{length, drop}
 use borrow.Author.Tests.{ltb-false, le-ltb}
+use Rattle.std.specs.Prelude.{Ok, Err}
+use Rattle.reader.specs.declared.refusal.Refusal.{Refusal}
+use Rattle.reader.specs.Refusals.{number_of, report}
 use Rattle.reader.specs.Bytes.{IsBytes}
 use Rattle.reader.specs.Family.{family_of, region_count}
 use Rattle.reader.specs.Causes.{first_cause, file_causes, Accepted}
 use Rattle.reader.specs.Calls.{answer, written, short}
-use Rattle.reader.proofs.First.{head_clear, join_clear, join_holds, clear_left, clear_right, answers, declines, writes, leaves_unchanged}
-use Rattle.reader.proofs.Accepting.{well_formed_lem, file_numbered}
+use Rattle.reader.proofs.First.{head_clear, join_clear, clear_left, clear_right, writes}
+use Rattle.reader.proofs.Accepting.{well_formed_lem, file_numbered, file_lacks}
+use Rattle.reader.proofs.Refusals.{Lacks, lacks_joined, says_ok, says_err}
 use Rattle.bounds.specs.Selections.{cause14, bound_of}
 use Rattle.bounds.specs.Private.Rows.{Ready}
-use Rattle.bounds.specs.declared.Bounded.TheVariants as bounded
-use Rattle.bounds.specs.Calls.{report_bound, causes_with_room, selection_causes}
+use Rattle.bounds.specs.Calls.{the_number, causes_with_room, selection_causes}
 use Rattle.bounds.proofs.Calls.Selecting.{right_length}
 
 module _ (file selection : List ℕ) (room : ℕ) where
   -- The first cause, in the order in which they are tried.
-
-  pub cause_of_file : (first_cause (file_causes file) ≡ 0 → ⊥) → first_cause (causes_with_room file selection room) ≡ first_cause (file_causes file)
-  unfolding causes_with_room
-  cause_of_file h = join_holds (file_causes file) _ h
 
   pub cause_14 : Accepted file → cause14 (family_of file).peptides selection ≡ true → first_cause (causes_with_room file selection room) ≡ 14
   unfolding causes_with_room first_cause
@@ -58,22 +57,20 @@ module _ (file selection : List ℕ) (room : ℕ) where
 
   -- The answers.
 
-  pub refuses : (n v : ℕ) → n ≡ first_cause (causes_with_room file selection room) → (n ≡ 0 → ⊥)
-      → report_bound (bounded.Refused n) ≡ answer (causes_with_room file selection room) (v ∷ [])
-  unfolding report_bound
-  refuses n v e h = rw e (sym (declines (causes_with_room file selection room) (λ z. h (e ∙ z)) (v ∷ [])))
+  lacks_place : Lacks 13 (causes_with_room file selection room)
+  unfolding causes_with_room
+  lacks_place = lacks_joined 13 (file_causes file) _ (file_lacks file) (omega arith)
+
+  pub refuses : (e : Refusal) (v : ℕ) → number_of e ≡ first_cause (causes_with_room file selection room)
+      → report the_number (Err e) ≡ answer (causes_with_room file selection room) (v ∷ [])
+  refuses e v h = says_err the_number (causes_with_room file selection room) _ e lacks_place h
 
   pub gives_bound : (v : ℕ) → first_cause (causes_with_room file selection room) ≡ 0 → v ≡ bound_of (family_of file) selection
-      → report_bound (bounded.Bound v) ≡ answer (causes_with_room file selection room) (bound_of (family_of file) selection ∷ [])
-  unfolding report_bound
-  gives_bound v h e = rw e (sym (answers (causes_with_room file selection room) h _))
+      → report the_number (Ok v) ≡ answer (causes_with_room file selection room) (bound_of (family_of file) selection ∷ [])
+  gives_bound v h e = says_ok the_number (causes_with_room file selection room) _ v h (ap the_number e)
 
 module _ (file selection out : List ℕ) where
   -- The outputs.
-
-  pub unchanged : (n : ℕ) (new : List ℕ) → n ≡ first_cause (selection_causes file selection out) → (n ≡ 0 → ⊥)
-      → out ≡ written (selection_causes file selection out) new out
-  unchanged n new e h = sym (leaves_unchanged (selection_causes file selection out) (λ z. h (e ∙ z)) new out)
 
   pub writes_all : (new after : List ℕ) → first_cause (selection_causes file selection out) ≡ 0 → length new ≡ region_count (family_of file)
       → after ≡ new ++ drop (region_count (family_of file)) out → after ≡ written (selection_causes file selection out) new out

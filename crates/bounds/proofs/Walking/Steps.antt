@@ -7,10 +7,10 @@ use mathlib.Core.Path.{◌≡◌, refl, sym, subst, ◌∙◌}
 use native.Mathlib.Nat.{mul-le-mul}
 use native.Mathlib.Numerals.{add-one}
 use native.Mathlib.Omega.{arith}
-use lib.ListN.{length, get_or, get_or-append}
+use lib.ListN.{length, get_or, take}
+use lib.Seq.{take_at}
 use lib.Dec.{leb, eqb}
 use borrow.Author.Tests.{eqb-true, eq-eqb}
-use Rattle.reader.specs.Lists.{tabulate}
 use Rattle.reader.specs.Family.{Family, leaves, region_count, region, leaf_of}
 use Rattle.reader.specs.WellFormed.{WellFormed}
 use Rattle.reader.proofs.Below.{some_at, found}
@@ -144,6 +144,14 @@ module _ {F : Family} {path : List ℕ} (well : WellFormed F) (is : Distinct F.p
 
 -- The entries, from the marks.
 
+pub marks_many : (F : Family) (path : List ℕ) → length (curve_marks F path) ≡ length path
+unfolding curve_marks
+marks_many F path = length_tabulate (length path) (λ i. mark_at F path (i + 1))
+
+-- where the marks are written at the start of a list, they are its part of that length
+pub marks_written : (F : Family) (path M rest : List ℕ) → M ≡ curve_marks F path ++ rest → take (length path) M ≡ curve_marks F path
+marks_written F path M rest e = rw e (take_at (curve_marks F path) rest (length path) (marks_many F path))
+
 module _ (M : List ℕ) where
   pub marks_none : marks_up_to M 0 ≡ 0
   unfolding marks_up_to
@@ -153,27 +161,25 @@ module _ (M : List ℕ) where
   unfolding marks_up_to
   marks_more t = rw add-one refl
 
-module _ {F : Family} {path : List ℕ} (well : WellFormed F) (is : Distinct F.peptides path) (M : List ℕ) (right : (t : ℕ) → t < length path → get_or M t 0 ≡ mark_at F path (t + 1)) where
-  pub entries_marked : (t : ℕ) → t ≤ length path → marks_up_to M t ≡ entry F path t
+module _ {F : Family} {path : List ℕ} (well : WellFormed F) (is : Distinct F.peptides path) where
+  mark_here : (t : ℕ) → t < length path → get_or (curve_marks F path) t 0 ≡ mark_at F path (t + 1)
+  unfolding curve_marks
+  mark_here t h = get_d_tabulate (length path) (λ i. mark_at F path (i + 1)) 0 t h
+
+  pub entries_marked : (t : ℕ) → t ≤ length path → marks_up_to (curve_marks F path) t ≡ entry F path t
   unfolding marks_up_to
   entries_marked zero h = sym (entry_start well is)
   entries_marked (suc t) h =
-      omega (arith, entries_marked t (omega arith), right t (omega arith), mark_is well is t (omega arith), entry_next well is t (omega arith))
+      omega (arith, entries_marked t (omega arith), mark_here t (omega arith), mark_is well is t (omega arith), entry_next well is t (omega arith))
 
-  pub marks_of : (places : ℕ) → places ≡ length path → length path ≤ F.peptides → length path ≤ length M → MarksOf places M
-  marks_of places e short room =
+  pub marks_of : length path ≤ F.peptides → MarksOf (curve_marks F path)
+  marks_of short =
       record {
-        room = omega arith;
-        few = omega (arith, well.peptides_most);
-        small = λ t h. omega (arith, right t (omega arith), mark_is well is t (omega arith), bit_few (not (stops well is t)));
+        few = omega (arith, marks_many F path, well.peptides_most);
+        small = λ t h.
+            let l : t < length path = omega (arith, marks_many F path) in
+            omega (arith, mark_here t l, mark_is well is t l, bit_few (not (stops well is t)));
       }
-
--- the marks written at the start of a list
-pub marks_written : (F : Family) (path rest : List ℕ) (t : ℕ) → t < length path → get_or (curve_marks F path ++ rest) t 0 ≡ mark_at F path (t + 1)
-unfolding curve_marks
-marks_written F path rest t h =
-    get_or-append (tabulate (length path) (λ i. mark_at F path (i + 1))) rest 0 t (omega (arith, length_tabulate (length path) (λ i. mark_at F path (i + 1))))
-    ∙ get_d_tabulate (length path) (λ i. mark_at F path (i + 1)) 0 t h
 
 -- equal tests have the same largest number
 pub largest_same : (p q : ℕ → Bool) (n : ℕ) → ((t : ℕ) → t ≤ n → p t ≡ q t) → largest_up_to n p ≡ largest_up_to n q

@@ -1,37 +1,34 @@
 -- Where no cause holds, the bound and the taken bytes are those that are owed.
-use Prim.Native.Nat.{ℕ}
 use native.Mathlib.Omega.{arith}
-use mathlib.Core.List.{List, ◌++◌}
-use mathlib.Core.Path.{◌≡◌, sym, ap, ◌∙◌}
-use lib.ListN.{length, drop}
-use Rattle.reader.specs.Family.{family_of, region_count}
+use mathlib.Core.Path.{◌≡◌, sym}
+use lib.ListN.{length}
+use Rattle.reader.specs.Family.{family_of}
 use Rattle.reader.specs.Causes.{first_cause}
-use Rattle.reader.proofs.Accepting.{accepted_header, few_regions}
-use Rattle.bounds.specs.Private.Rows.{Ready}
+use Rattle.reader.proofs.Refusals.{handed_on, unwritten}
 use Rattle.bounds.specs.Calls.{causes_with_room}
-use Rattle.bounds.proofs.Summing.TakenBytes.{taken_along_lem, taken_length}
-use Rattle.bounds.proofs.Calls.SelectionCalls.{none_holds, none_ready, refuses, unchanged, gives_bound, writes_all}
+use Rattle.bounds.proofs.Summing.TakenBytes.{taken_length}
+use Rattle.bounds.proofs.Calls.SelectionCalls.{none_holds, none_ready, refuses, gives_bound, writes_all}
 use Rattle.bounds.proofs.bound.Goals as goal
-use Rattle.bounds.proofs.bound.Goals.{Else-cause-ne0}
+use Rattle.bounds.proofs.bound.Goals.{In_ok-check_bound}
 
-clear : (c : Else-cause-ne0) → first_cause (causes_with_room c.args.file.now c.args.selection.now (length c.args.taken.now)) ≡ 0
-clear c = sym c.bound_cause-cause.ensures ∙ c.if-cause-ne0.false
+clear : (c : In_ok-check_bound) → first_cause (causes_with_room c.args.file.now c.args.selection.now (length c.args.taken.now)) ≡ 0
+clear c = sym c.in_ok-check_bound.ensures
 
-pub returns-then-cause-ne0 : goal.returns-then-cause-ne0
-returns-then-cause-ne0 c =
-    let e = c.bound_cause-cause.ensures in record { bound_answers = refuses _ _ _ _ _ e c.if-cause-ne0.true; taken_writes = unchanged _ _ _ _ _ e c.if-cause-ne0.true }
+pub returns-in_err-check_bound : goal.returns-in_err-check_bound
+returns-in_err-check_bound c =
+    let refusal = c.in_err-check_bound.field-0.0 in
+    let first = c.in_err-check_bound.ensures in
+    rw (handed_on c.from_residual.result refusal c.from_residual.ensures.1)
+    (record { bound_answers = refuses _ _ _ refusal _ first; taken_writes = unwritten refusal _ first _ _ })
 
 pub write_bound-requires : goal.write_bound-requires
 write_bound-requires c =
-    let k = clear (goal.at.write_bound-requires c).Else-cause-ne0 in
+    let k = clear (goal.at.write_bound-requires c).In_ok-check_bound in
     record { ready = none_ready c.args.file.now _ _ (λ i. omega (arith, c.type_inv.file i)) k; room = (none_holds _ _ _ k).room }
-
-pub shape_of-taken : goal.shape_of-taken
-shape_of-taken c = c.write_bound.auto.taken
 
 pub returns : goal.returns
 returns c =
     let s = c.args.file.now in
-    let h = clear (goal.at.returns c).Else-cause-ne0 in
+    let h = clear (goal.at.returns c).In_ok-check_bound in
     let S = c.args.selection.now in
     record { bound_answers = gives_bound s S _ _ h c.write_bound.ensures.value; taken_writes = writes_all s S c.args.taken.now _ _ h (taken_length (family_of s) S) c.write_bound.ensures.taken_after }

@@ -1,15 +1,15 @@
 -- What the private functions that check a path and walk along it promise each other.
-use Rattle.std.specs.Prelude.{ℕ, zero, suc, ◌+◌, ◌-◌, ◌<◌, ◌≤◌, Bool, false, cond, ◌&&◌, List, [], ◌∷◌, ◌≡◌, length, get_or, eqb}
+use Rattle.std.specs.Prelude.{ℕ, zero, suc, ◌+◌, ◌-◌, ◌<◌, ◌≤◌, Bool, true, false, cond, ◌&&◌, List, ◌≡◌, length, get_or, eqb, Result, Ok, Err}
 use Rattle.reader.specs.Lists.{some_below}
 use Rattle.reader.specs.Family.{Family, family_of, region_count, leaf_of}
 use Rattle.reader.specs.Causes.{first_cause}
-use Rattle.reader.specs.Calls.{Report}
+use Rattle.reader.specs.Refusals.{number_of, beside, Report}
+use Rattle.reader.specs.declared.refusal.Refusal.{Refusal}
 use Rattle.reader.specs.WellFormed.{WellFormed, Nested}
-use Rattle.bounds.specs.Curves.{cause11, cause12}
+use Rattle.reader.specs.declared.refusal.Refusal.TheVariants.{Repeated}
+use Rattle.bounds.specs.Curves.{cause11, cause12, cause13, first_repeat}
 use Rattle.bounds.specs.Calls.{input_causes, path_refusal}
 use Rattle.bounds.specs.Holding.{is_between, holds_leaf, LastHolding}
-use Rattle.bounds.specs.declared.path.Admitted.{Admitted}
-use Rattle.bounds.specs.declared.path.Admitted.TheVariants.{Yes, Refused, Repeated}
 
 -- The path.
 
@@ -36,10 +36,14 @@ pub record InputRefused (file path : List ℕ) (r : Report) : Type 0 where
   pub told : r ≡ path_refusal path (first_cause (input_causes file path))
 
 -- a family and a path are accepted, or refused
-abbrev pub Admission : List ℕ → List ℕ → List ℕ → Admitted → Type 0
-Admission file path P Yes = (first_cause (input_causes file path) ≡ 0) × Walkable (family_of file) path P
-Admission file path P (Refused n) = InputRefused file path (record { number = n; values = [] })
-Admission file path P (Repeated p) = InputRefused file path (record { number = 13; values = p ∷ [] })
+abbrev pub Admission : List ℕ → List ℕ → List ℕ → Result (Unit {0}) Refusal → Type 0
+Admission file path P (Ok done) = (first_cause (input_causes file path) ≡ 0) × Walkable (family_of file) path P
+Admission file path P (Err e) = InputRefused file path (record { number = number_of e; values = beside e })
+
+-- the peptides of a path are different, or refused with the first place whose peptide stands earlier too
+abbrev pub Differing : List ℕ → Result (Unit {0}) Refusal → Type 0
+Differing path (Ok done) = cause13 path ≡ false
+Differing path (Err e) = (cause13 path ≡ true) × (e ≡ Repeated (first_repeat path))
 
 -- The regions that hold a leaf.
 
@@ -85,8 +89,7 @@ unfoldable pub marks_up_to : List ℕ → ℕ → ℕ
 marks_up_to M zero = 0
 marks_up_to M (suc t) = marks_up_to M t + get_or M t 0
 
--- the list begins with the marks at so many places
-pub record MarksOf (places : ℕ) (M : List ℕ) : Type 0 where
-  pub room : places ≤ length M
-  pub few : places ≤ 4096
-  pub small : (t : ℕ) → t < places → get_or M t 0 ≤ 1
+-- the list is the marks of a curve
+pub record MarksOf (M : List ℕ) : Type 0 where
+  pub few : length M ≤ 4096
+  pub small : (t : ℕ) → t < length M → get_or M t 0 ≤ 1

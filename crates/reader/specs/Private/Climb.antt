@@ -1,7 +1,7 @@
 -- What the private functions that judge a file and find the parents promise each other.
-use Rattle.std.specs.Prelude.{ℕ, suc, ◌-◌, ◌<◌, ◌≤◌, Bool, false, not, cond, ◌&&◌, List, ◌≡◌, length, get_or, eqb, ltb}
+use Rattle.std.specs.Prelude.{ℕ, suc, ◌-◌, ◌<◌, ◌≤◌, Bool, false, not, cond, ◌&&◌, List, ◌++◌, ◌≡◌, length, get_or, eqb, ltb}
 use Rattle.reader.specs.Family.{Family, family_of, region_count, region}
-use Rattle.reader.specs.Causes.{cause9, first_cause, family_causes, file_causes}
+use Rattle.reader.specs.Causes.{cause9, first_cause, header_causes, listing_causes, arrangement_causes, file_causes}
 use Rattle.reader.specs.WellFormed.{Ordered, NestedBelow, ParentsBelow}
 
 -- what is known where the parent of the k-th region is looked for
@@ -30,8 +30,13 @@ pub record Filled (F : Family) (P : List ℕ) (crossing : Bool) : Type 0 where
 unfoldable pub one_deeper : List ℕ → ℕ → ℕ
 one_deeper D c = cond (eqb c 0) 0 (suc (get_or D (c - 1) 0))
 
-pub record FamilyJudged (F : Family) (P : List ℕ) (number : ℕ) : Type 0 where
-  pub tested : number ≡ first_cause (family_causes F)
+-- none of the causes 1 to 7 holds
+abbrev pub Listed : List ℕ → Type 0
+Listed s = first_cause (header_causes s ++ listing_causes (family_of s)) ≡ 0
+
+-- the first of the causes 8 to 10, and where none holds the parents in the list
+pub record ArrangementJudged (F : Family) (P : List ℕ) (number : ℕ) : Type 0 where
+  pub tested : number ≡ first_cause (arrangement_causes F)
   pub parents : number ≡ 0 → ParentsBelow F P (region_count F)
 
 -- the first cause of a file, and the parents of an accepted family in the list

@@ -2,10 +2,10 @@
 use Prim.Native.Nat.{ℕ, ◌≤◌}
 use mathlib.Core.Bool.{false}
 use mathlib.Core.List.{List}
-use mathlib.Core.Path.{◌≡◌, sym, ap, ◌∙◌}
+use mathlib.Core.Path.{◌≡◌, ap, ◌∙◌}
 use native.Mathlib.Omega.{arith}
-use lib.ListN.{length, take, drop, length-append}
-use lib.Seq.{take_at, length-take-le}
+use lib.ListN.{length, take, drop}
+use lib.Seq.{take_at}
 use Rattle.reader.specs.Family.{Family, family_of}
 use Rattle.reader.specs.Causes.{first_cause, Accepted}
 use Rattle.reader.specs.Calls.{written}
@@ -29,12 +29,6 @@ live_selection F = set_selection F.peptides (live (ranges_of F))
 
 module _ (F : Family) (L : List ℕ) (begins : Begins (live_bytes F) L) where
   -- the selection is the first m bytes of the list
-  pub live_room : F.peptides ≤ length L
-  live_room = omega (arith, live_length F, ap length begins.1, length-append (live_bytes F) begins.0)
-
-  pub live_fills : (m : ℕ) → m ≡ F.peptides → m ≡ length (take m L)
-  live_fills m e = sym (length-take-le m L (omega (arith, live_room)))
-
   pub live_part : (m : ℕ) → m ≡ F.peptides → take m L ≡ live_bytes F
   live_part m e = ap (take m) begins.1 ∙ take_at (live_bytes F) begins.0 m (omega (arith, live_length F))
 

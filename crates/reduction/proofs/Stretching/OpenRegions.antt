@@ -2,7 +2,6 @@
 use Prim.Native.Nat.{ℕ, ◌+◌, ◌-◌, ◌<◌, ◌≤◌}
 use native.Mathlib.Nat.{eq-or-lt_of_le}
 use native.Mathlib.Omega.{arith}
-use mathlib.Core.Bool.{cond}
 use mathlib.Core.List.{List}
 use mathlib.Core.Logic.{◌⊎◌, inl, inr, ⊎_elim}
 use mathlib.Core.Path.{◌≡◌, sym, ap, ◌∙◌}
@@ -82,7 +81,7 @@ module _ (F : Family) (w : WellFormed F) where
   open_reaches o l h = omega (arith, o.reaches (omega arith))
 
   -- the last region that begins at leaf j + 1 is the innermost open one
-  new_innermost :
+  pub new_innermost :
       (j k₀ k c : ℕ) (L₀ L H : List ℕ) → Begun F j k₀ L₀ → Begun F (j + 1) k L → k₀ < k → Open F j (j + 1) H c
       → Open F (j + 1) (j + 1) H k
   new_innermost j k₀ k c L₀ L H old b more o =
@@ -105,7 +104,7 @@ module _ (F : Family) (w : WellFormed F) where
       )
 
   -- no region begins at leaf j + 1
-  same_innermost :
+  pub same_innermost :
       (j k c : ℕ) (L₀ L H : List ℕ) → Begun F j k L₀ → Begun F (j + 1) k L → Open F j (j + 1) H c → Open F (j + 1) (j + 1) H c
   same_innermost j k c L₀ L H old b o =
       record {
@@ -113,15 +112,6 @@ module _ (F : Family) (w : WellFormed F) where
         reaches = o.reaches;
         each = λ i l h. o.each i l (⊎_elim (λ u. absurd (omega (arith, b.others i u l))) (λ u. old.lows.before i u) (le_or_lt k i));
       }
-
-  pub regions_begin :
-      (j k₀ k c : ℕ) (L₀ L H : List ℕ) → Begun F j k₀ L₀ → Begun F (j + 1) k L → k₀ ≤ k → Open F j (j + 1) H c
-      → Open F (j + 1) (j + 1) H (cond (eqb k₀ k) c k)
-  regions_begin j k₀ k c L₀ L H old b more o =
-      ⊎_elim
-      (λ t. rw t (same_innermost j k c L₀ L H (rw (eqb-true k₀ k t) at old) b o))
-      (λ f. rw f (new_innermost j k₀ k c L₀ L H old b (⊎_elim (λ e. absurd (eqb-false k₀ k f e)) (λ d. d) (eq-or-lt_of_le more)) o))
-      (test (eqb k₀ k))
 
   -- the innermost open region ends at leaf j: its parent is open next
   pub one_ends :

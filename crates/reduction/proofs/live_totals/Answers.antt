@@ -2,13 +2,9 @@
 use native.Mathlib.Omega.{arith}
 use lib.ListN.{take}
 use Rattle.reader.specs.Family.{family_of}
-use Rattle.reduction.proofs.Calls.LiveSelection.{live_fills, live_part, live_totals_written}
+use Rattle.reduction.proofs.Calls.LiveSelection.{live_part, live_totals_written}
 use Rattle.reduction.proofs.Calls.ReduceCalls.{few_peptides}
 use Rattle.reduction.proofs.live_totals.Goals as goal
-
-pub slice_bounds-inside_totals-end : goal.slice_bounds-inside_totals-end
-slice_bounds-inside_totals-end c =
-    live_fills (family_of c.args.file.now) c.args.live.now c.requires.begins c.peptide_count-m.result c.peptide_count-m.ensures
 
 pub shared_ref_as_front-inside_totals : goal.shared_ref_as_front-inside_totals
 shared_ref_as_front-inside_totals c =

@@ -1,6 +1,6 @@
 -- What the private functions that find the stretches promise each other.
 use Rattle.std.specs.Prelude.{ℕ, ◌+◌, ◌-◌, ◌<◌, ◌≤◌, true, cond, List, ◌⊎◌, ◌≡◌, length, get_or, eqb, leb, ltb}
-use Rattle.reader.specs.Family.{Family, family_of, leaves, region_count, region, peptides_up_to}
+use Rattle.reader.specs.Family.{Family, leaves, region_count, region, peptides_up_to}
 use Rattle.reader.specs.WellFormed.{WellFormed, ParentsBelow}
 use Rattle.bounds.specs.Ranges.{Peptides, ranges_of, range_at}
 use Rattle.reduction.specs.Reduction.{live, last_of}

@@ -1,29 +1,27 @@
 -- The entries are what the marks add up to.
-use Prim.Native.Nat.{ℕ, ◌+◌, ◌<◌}
+use Prim.Native.Nat.{ℕ, ◌+◌}
 use native.Mathlib.Omega.{arith}
 use mathlib.Core.List.{List, ◌++◌}
-use mathlib.Core.Path.{◌≡◌, refl, ap, ◌∙◌}
-use lib.ListN.{length, get_or, drop}
+use mathlib.Core.Path.{◌≡◌, ap, ◌∙◌}
+use lib.ListN.{length, take, drop}
 use Rattle.reader.specs.Family.{family_of}
 use Rattle.reader.proofs.Lists.{tabulate_same}
-use Rattle.bounds.specs.Curves.{entry, mark_at, curve_values}
+use Rattle.bounds.specs.Curves.{entry, curve_marks, curve_values}
 use Rattle.bounds.specs.Private.Walks.{marks_up_to}
-use Rattle.bounds.proofs.Walking.Steps.{entries_marked, marks_of, marks_written}
+use Rattle.bounds.proofs.Walking.Steps.{entries_marked, marks_of, marks_many, marks_written}
 use Rattle.bounds.proofs.entries.write_curve.Goals as goal
 use Rattle.bounds.proofs.entries.write_curve.Goals.{After-mark_path}
 
-right : (c : After-mark_path) (t : ℕ) → t < length c.args.path.now
-    → get_or c.mark_path.new.marks t 0 ≡ mark_at (family_of c.args.file.now) c.args.path.now (t + 1)
-right c t h = ap (λ (l : List ℕ). get_or l t 0) c.mark_path.ensures ∙ marks_written (family_of c.args.file.now) c.args.path.now _ t h
-
-pub mark_path-requires : goal.mark_path-requires
-mark_path-requires c =
-    record { walkable = c.requires.walkable; path_in_bounds = c.requires.path_in_bounds_2 }
+-- the part of the list that is passed on is the marks
+part : (c : After-mark_path) → take (length c.args.path.now) c.mark_path.new.marks ≡ curve_marks (family_of c.args.file.now) c.args.path.now
+part c = marks_written _ _ _ _ c.mark_path.ensures
 
 pub write_values-requires : goal.write_values-requires
 write_values-requires c =
     let pre = c.requires in
-    let walk = pre.walkable in record { marks_of = marks_of walk.well walk.different c.mark_path.new.marks (right (goal.at.write_values-requires c).After-mark_path) _ refl walk.short (omega (arith, pre.path_in_bounds_2, c.mark_path.auto)); places_in_bounds = omega (arith, pre.path_in_bounds) }
+    let walk = pre.walkable in
+    rw (part (goal.at.write_values-requires c).After-mark_path)
+    (record { marks_of = marks_of walk.well walk.different walk.short; room = omega (arith, pre.values_room, marks_many (family_of c.args.file.now) c.args.path.now) })
 
 pub returns : goal.returns
 unfolding curve_values
@@ -32,9 +30,9 @@ returns c =
     let args = c.args in
     let F = family_of args.file.now in
     let path = args.path.now in
-    let M = c.mark_path.new.marks in record {
-      values_after = c.write_values.ensures
+    let M = curve_marks F path in record {
+      values_after = (rw (part (goal.at.returns c).After-mark_path, marks_many F path) at c.write_values.ensures)
           ∙ ap (λ (l : List ℕ). l ++ drop (length path + 1) args.values.now)
-          (tabulate_same (length path + 1) (marks_up_to M) (entry F path) (λ t l. entries_marked walk.well walk.different M (right (goal.at.returns c).After-mark_path) t (omega arith)));
+          (tabulate_same (length path + 1) (marks_up_to M) (entry F path) (λ t l. entries_marked walk.well walk.different t (omega arith)));
       marks_after = c.mark_path.ensures;
     }

@@ -3,32 +3,20 @@ use native.Mathlib.Omega.{arith}
 use mathlib.Core.List.{List}
 use mathlib.Core.Path.{◌≡◌, refl, sym, ap, ◌∙◌}
 use lib.ListN.{set, length-set}
-use lib.Seq.{drop-set-lt}
 use Rattle.bounds.specs.Private.Walks.{marks_up_to}
 use Rattle.reader.proofs.Lists.{write_first, write_more}
 use Rattle.bounds.proofs.Walking.Steps.{marks_none, marks_more}
 use Rattle.bounds.proofs.entries.write_values.Goals as goal
 
-pub bounds-values-0 : goal.bounds-values-0
-bounds-values-0 c =
-    omega (arith, c.requires.places_in_bounds)
-
 pub loop-t-init : goal.loop-t-init
 loop-t-init c =
     let M = c.args.marks.now in
-    (omega arith, refl, omega arith, sym (marks_none M), write_first (marks_up_to M) c.args.values.now 0 (omega (arith, c.requires.places_in_bounds)) (sym (marks_none M)))
-
-pub bounds-marks-t : goal.bounds-marks-t
-bounds-marks-t c =
-    omega (arith, c.requires.marks_of.room, c.loop-t-test.true)
-
-pub next_entry-entry-requires : goal.next_entry-entry-requires
-next_entry-entry-requires c =
-    (omega (arith, c.requires.marks_of.few, c.loop-t.invariant.2, c.loop-t-test.true), c.requires.marks_of.small c.loop-t.t c.loop-t-test.true)
-
-pub bounds-values-t : goal.bounds-values-t
-bounds-values-t c =
-    omega (arith, c.requires.places_in_bounds, simp length-set at c.loop-t.invariant.1, c.loop-t-test.true)
+    record {
+      same_length = refl;
+      few = omega arith;
+      sum = sym (marks_none M);
+      written = write_first (marks_up_to M) c.args.values.now 0 (omega (arith, c.requires.room)) (sym (marks_none M));
+    }
 
 pub loop-t-preserved : goal.loop-t-preserved
 loop-t-preserved c =
@@ -36,21 +24,10 @@ loop-t-preserved c =
     let t = c.loop-t.t in
     let M = c.args.marks.now in
     let values = set c.args.values.now 0 0 in
-    let e : c.next_entry-entry.result ≡ marks_up_to M (t + 1) = omega (arith, c.next_entry-entry.ensures, inv.3, marks_more M t) in (
-      omega arith,
-      simp length-set (simp length-set at inv.1),
-      omega (arith, c.next_entry-entry.ensures, c.requires.marks_of.small t c.loop-t-test.true, inv.2),
-      e,
-      ap (λ (l : List ℕ). set l (t + 1) c.next_entry-entry.result) inv.4 ∙ write_more (marks_up_to M) values (t + 1) c.next_entry-entry.result (simp length-set (omega (arith, c.requires.places_in_bounds))) e,
-    )
-
-pub shape_of-values : goal.shape_of-values
-shape_of-values c =
-    simp length-set at c.loop-t.invariant.1
-
-pub returns : goal.returns
-returns c =
-    let inv = c.loop-t.invariant in
-    let places = c.args.places in
-    let end : c.loop-t.t ≡ places = omega arith in
-    (rw end at inv.4) ∙ rw (drop-set-lt (places + 1) c.args.values.now 0 0 (omega arith))
+    let e : c.next_entry-entry.result ≡ marks_up_to M (t + 1) = omega (arith, c.next_entry-entry.ensures, inv.sum, marks_more M t) in record {
+      same_length = simp length-set (simp length-set at inv.same_length);
+      few = omega (arith, c.next_entry-entry.ensures, c.requires.marks_of.small t c.loop-t-test.true, inv.few);
+      sum = e;
+      written = ap (λ (l : List ℕ). set l (t + 1) c.next_entry-entry.result) inv.written
+          ∙ write_more (marks_up_to M) values (t + 1) c.next_entry-entry.result (simp length-set (omega (arith, c.requires.room))) e;
+    }

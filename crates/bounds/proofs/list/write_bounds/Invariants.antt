@@ -1,5 +1,5 @@
--- The bounds of the first i selections are written; the next selection begins where they end.
-use Prim.Native.Nat.{ℕ, ◌*◌, ◌-◌, ◌≤◌}
+-- The bounds of the selections so far are written.
+use Prim.Native.Nat.{ℕ}
 use mathlib.Core.List.{List, ◌++◌}
 use mathlib.Core.Path.{◌≡◌}
 use lib.ListN.{length, drop}
@@ -14,11 +14,7 @@ abbrev pub bound_at : Family → List ℕ → ℕ → ℕ
 bound_at F selections i = bound_of F (selection_at F.peptides selections i)
 
 abbrev pub invariant-loop-i : goal.invariant-loop-i
-invariant-loop-i l = (l.i ≤ l.count)
-    × (l.start ≡ l.i * (family_of l.file).peptides)
-    × (length l.values ≡ length l.initial.values)
-    × (length l.totals ≡ 8191)
-    × (l.values ≡ tabulate l.i (bound_at (family_of l.file) l.selections) ++ drop l.i l.initial.values)
-
-abbrev pub decreases-loop-i : goal.decreases-loop-i
-decreases-loop-i l = l.count - l.i
+invariant-loop-i l = record {
+  room : length l.totals ≡ 8191;
+  written : l.values ≡ tabulate l.i (bound_at (family_of l.file) l.selections) ++ drop l.i l.initial.values;
+}

@@ -1,37 +1,33 @@
+use Prim.Native.Nat.{ℕ, ◌<◌}
 use native.Mathlib.Omega.{arith}
+use mathlib.Core.Bool.{Bool, true, false, ◌||◌}
+use mathlib.Core.List.{List}
 use mathlib.Core.Path.{◌≡◌, sym}
 use lib.ListN.{length, get_or}
 use lib.Dec.{eqb, ltb}
-use borrow.Author.Tests.{eq-eqb, ne_eqb, lt-ltb, le-ltb}
-use Rattle.reader.proofs.Bools.{or_l, or_r, or_neither}
-use Rattle.reader.proofs.Below.{none_below_zero, none_more, some_at}
+use borrow.Author.Rules.{rules}
+use borrow.Author.Tests.{tests}
+use Rattle.std.specs.List.{HoldsAt, AllWithin}
+use Rattle.std.specs.Bool.{MatchBool}
+use Rattle.std.proofs.lemmas.Iterator.{YieldsList-from_slice, cases_from_any}
+use Rattle.reader.proofs.Below.{none_below, some_at}
 use Rattle.bounds.specs.Curves.{cause12}
-use Rattle.bounds.proofs.Calls.PathLaws.{off_line}
 use Rattle.bounds.proofs.path.off_the_line.Goals as goal
 
-pub loop-i-init : goal.loop-i-init
-loop-i-init c =
-    (omega arith, none_below_zero _)
+-- a number that is on no peptide line
+abbrev off : ℕ → ℕ → Bool
+off m x = eqb x 0 || ltb m x
 
-pub returns-then-number-eq0 : goal.returns-then-number-eq0
+found : (m : ℕ) (path : List ℕ) (r : Bool)
+    → MatchBool r ((k : ℕ) × (k < length path) × HoldsAt (λ x. off m x ≡ true) path k) (AllWithin (λ x. off m x ≡ false) path 0 (length path))
+    → r ≡ cause12 m path
 unfolding cause12
-returns-then-number-eq0 c =
-    let x = get_or c.args.path.now c.loop-i.i 0 in
-    sym (some_at (off_line c.args.peptides c.args.path.now) _ c.loop-i.i (omega arith) (or_l (eqb x 0) _ (eq-eqb x 0 c.if-number-eq0.true)))
-
-pub returns-then-peptides-number : goal.returns-then-peptides-number
-unfolding cause12
-returns-then-peptides-number c =
-    let x = get_or c.args.path.now c.loop-i.i 0 in
-    sym (some_at (off_line c.args.peptides c.args.path.now) _ c.loop-i.i (omega arith) (or_r (eqb x 0) _ (lt-ltb c.args.peptides x c.if-peptides-number.true)))
-
-pub loop-i-preserved : goal.loop-i-preserved
-loop-i-preserved c =
-    let x = get_or c.args.path.now c.loop-i.i 0 in
-    (omega arith, none_more _ c.loop-i.i c.loop-i.invariant.1 (or_neither (eqb x 0) (ltb c.args.peptides x) (ne_eqb x 0 c.if-number-eq0.false) (le-ltb c.args.peptides x c.if-peptides-number.false)))
+found m path true h = sym (some_at (λ i. off m (get_or path i 0)) (length path) h.0 h.1 (h.2 0))
+found m path false h = sym (none_below (λ i. off m (get_or path i 0)) (length path) (λ k l. h k 0 (omega arith) l))
 
 pub returns : goal.returns
-unfolding cause12
 returns c =
-    let end : c.loop-i.i ≡ length c.args.path.now = omega arith in
-    sym (rw end at c.loop-i.invariant.1)
+    found _ _ _
+    (cases_from_any _ _ c.any.result (λ x. off c.args.peptides x ≡ true) (λ x. off c.args.peptides x ≡ false) c.any.ensures.ran (YieldsList-from_slice c.args.path.now cc)
+    (λ x q k. search (rules, tests))
+    (λ x q k. search (rules, tests)))

@@ -10,18 +10,18 @@ pub returns-then-selection-whole : goal.returns-then-selection-whole
 returns-then-selection-whole c =
     sym (wrong_length _ _ c.if-selection-whole.true)
 
-pub loop-i-init : goal.loop-i-init
-loop-i-init c =
-    (omega arith, sym (none_below_zero _))
+pub loop-byte-init : goal.loop-byte-init
+loop-byte-init c =
+    sym (none_below_zero _)
 
-pub loop-i-preserved : goal.loop-i-preserved
-loop-i-preserved c =
+pub loop-byte-preserved : goal.loop-byte-preserved
+loop-byte-preserved c =
     let s = c.args.selection.now in
-    let i = c.loop-i.i in
-    (omega arith, ap (λ (b : Bool). b || over_one s i) c.loop-i.invariant.1 ∙ over_more s i)
+    let i = c.loop-byte.byte-index in
+    ap (λ (b : Bool). b || over_one s i) c.loop-byte.invariant ∙ over_more s i
 
 pub returns : goal.returns
 returns c =
     let s = c.args.selection.now in
-    let end : c.loop-i.i ≡ length s = omega arith in
-    rw end at c.loop-i.invariant.1 ∙ sym (by_bytes _ s c.if-selection-whole.false)
+    let end : c.loop-byte.byte-index ≡ length s = omega arith in
+    rw end at c.loop-byte.invariant ∙ sym (by_bytes _ s c.if-selection-whole.false)

@@ -13,6 +13,6 @@ use Rattle.reader.proofs.causes.bad_lengths.Goals as goal
 pub returns : goal.returns
 unfolding cause6
 returns c =
-    let F = family_of c.args.file.now in
+    let F = family_of c.args.file.bytes.now in
     let all : c.added_lengths.result ≡ sum F.lengths = omega (arith, c.added_lengths.ensures, nothing_before F, up_to_end F c.leaf_count-leaves.result (omega (arith, c.leaf_count-leaves.ensures))) in
     ap₂ (λ (a b : ℕ). not (eqb a b)) all c.peptide_count.ensures

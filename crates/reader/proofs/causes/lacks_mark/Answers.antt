@@ -1,20 +1,19 @@
 -- Under 16 bytes, or the first four bytes are not the mark.
 use native.Mathlib.Omega.{arith}
 use mathlib.Core.Bool.{not}
-use mathlib.Core.Path.{sym, ap}
-use lib.ListN.{length}
-use borrow.Author.Tests.{le-ltb}
-use Rattle.reader.specs.Family.{mark}
+use mathlib.Core.Path.{sym, ap, ◌∙◌}
+use lib.ListN.{length, take}
+use borrow.Author.Tests.{lt-ltb, le-ltb}
 use Rattle.reader.specs.Causes.{cause1}
-use Rattle.reader.proofs.Bools.{passes}
-use Rattle.reader.proofs.Judged.{mark_there}
+use Rattle.reader.proofs.Lists.{pointwise_swap}
+use Rattle.reader.proofs.Judged.{marked_so}
 use Rattle.reader.proofs.causes.lacks_mark.Goals as goal
 
 pub returns-then-file-lt16 : goal.returns-then-file-lt16
-returns-then-file-lt16 c =
-    sym (passes _ (λ f. omega (arith, (mark_there mark c.args.file.now f).0)))
+unfolding cause1
+returns-then-file-lt16 c = rw (lt-ltb (length c.args.file.now) 16 c.if-file-lt16.true)
 
-pub returns : goal.returns
-unfolding cause1 mark
-returns c =
-    rw (le-ltb (length c.args.file.now) 16 c.if-file-lt16.false) (ap not c.same_bytes.ensures)
+pub returns-else-file-lt16 : goal.returns-else-file-lt16
+returns-else-file-lt16 c =
+    let s = c.args.file.now in
+    ap not (rw c.told-mark at c.starts_with.ensures.value ∙ pointwise_swap c.args.mark.now (take 4 s)) ∙ sym (marked_so c.args.mark.now s c.if-file-lt16.false)

@@ -1,42 +1,47 @@
-use Prim.Native.Nat.{◌-◌, ◌+◌}
+use Prim.Native.Nat.{ℕ, ◌-◌, ◌+◌, ◌≤◌}
 use native.Mathlib.Omega.{arith}
-use mathlib.Core.Bool.{not}
-use mathlib.Core.Path.{◌≡◌, sym, ap₂, ◌∙◌}
-use Rattle.reader.specs.Family.{Region, family_of, region_count, region}
+use mathlib.Core.Bool.{Bool, true, false, not}
+use mathlib.Core.Path.{◌≡◌, sym, ap, ap₂, ◌∙◌}
+use Rattle.reader.specs.Lists.{some_below}
+use Rattle.reader.specs.Family.{Region, Family, family_of, region_count, region}
 use Rattle.reader.specs.Nesting.{before}
 use Rattle.reader.specs.Causes.{cause8}
-use Rattle.reader.proofs.Below.{none_below_zero, none_more, some_at}
+use Rattle.reader.proofs.Below.{none_below_zero, none_more, none_at, none_below, some_at}
 use Rattle.reader.proofs.causes.misordered_region.Goals as goal
-use Rattle.reader.proofs.causes.misordered_region.Goals.{After-not_before}
 
--- the test of the loop's body speaks of the k-th region and the next
-tested : (c : After-not_before)
-    → c.not_before.result
-    ≡ not (before (region (family_of c.args.file.now) c.loop-k.k)
-    (region (family_of c.args.file.now) (c.loop-k.k + 1)))
-tested c = c.not_before.ensures ∙ ap₂ (λ (a b : Region). not (before a b)) c.loop-k.invariant.2 c.region_within-q.ensures
+-- a region does not stand before the next
+abbrev astray : Family → ℕ → Bool
+astray F i = not (before (region F i) (region F (i + 1)))
+
+module _ (F : Family) (k : ℕ) (some : 1 ≤ k) where
+  -- the test of the region before the k-th one and the k-th
+  here : (b : Bool) → b ≡ before (region F (k - 1)) (region F k) → not b ≡ astray F (k - 1)
+  here b e = let next : k - 1 + 1 ≡ k = omega arith in ap not e ∙ ap (λ (i : ℕ). not (before (region F (k - 1)) (region F i))) (sym next)
+
+  more : some_below (k - 1) (astray F) ≡ false → astray F (k - 1) ≡ false → some_below (k + 1 - 1) (astray F) ≡ false
+  more h t = let next : k - 1 + 1 ≡ k + 1 - 1 = omega arith in rw next at (none_more (astray F) (k - 1) h t)
 
 pub loop-k-init : goal.loop-k-init
-loop-k-init c =
-    (omega arith, c.region_count-regions.ensures, c.region_of-r.ensures, none_below_zero _)
+loop-k-init c = (c.region_of-r.ensures, none_below_zero _)
 
-pub region_within-q-requires : goal.region_within-q-requires
-region_within-q-requires c =
-    record { k_bound = omega arith; k_in_bounds = omega arith }
-
-pub returns-then-not_before : goal.returns-then-not_before
+pub returns-then-not-before : goal.returns-then-not-before
 unfolding cause8
-returns-then-not_before c =
-    let F = family_of c.args.file.now in
-    sym (some_at _ (region_count F - 1) c.loop-k.k (omega arith) (sym (tested (goal.at.returns-then-not_before c).After-not_before) ∙ c.if-not_before.true))
+returns-then-not-before c =
+    let F = family_of c.args.file.bytes.now in
+    let k = c.loop-k.k in
+    let b = c.before-in-loop-k.ensures ∙ ap₂ before c.loop-k.invariant.0 c.region-q.ensures in
+    sym (some_at (astray F) (region_count F - 1) (k - 1) (omega (arith, c.loop-k-test.true, c.region_count-k-end.ensures)) (sym (here F k c.loop-k.auto.k _ b) ∙ ap not c.if-not-before.true))
 
 pub loop-k-preserved : goal.loop-k-preserved
 loop-k-preserved c =
-    let inv = c.loop-k.invariant in
-    (omega arith, inv.1, c.region_within-q.ensures, none_more _ _ inv.3 (sym (tested (goal.at.loop-k-preserved c).After-not_before) ∙ c.if-not_before.false))
+    let F = family_of c.args.file.bytes.now in
+    let k = c.loop-k.k in
+    let b = c.before-in-loop-k.ensures ∙ ap₂ before c.loop-k.invariant.0 c.region-q.ensures in
+    let same : k ≡ k + 1 - 1 = omega arith in
+    (c.region-q.ensures ∙ ap (region F) same, more F k c.loop-k.auto.k c.loop-k.invariant.1 (sym (here F k c.loop-k.auto.k _ b) ∙ ap not c.if-not-before.false))
 
 pub returns : goal.returns
 unfolding cause8
 returns c =
-    let end : c.loop-k.k ≡ region_count (family_of c.args.file.now) - 1 = omega arith in
-    sym (rw end at c.loop-k.invariant.3)
+    let F = family_of c.args.file.bytes.now in
+    sym (none_below (astray F) (region_count F - 1) (λ i l. none_at (astray F) (c.loop-k.k - 1) i c.loop-k.invariant.1 (omega (arith, l, c.region_count-k-end.ensures))))

@@ -5,12 +5,4 @@ use Rattle.reader.specs.Family.{family_of, peptides_up_to}
 use Rattle.reader.proofs.family.added_lengths.Given as goal
 
 abbrev pub invariant-loop-j : goal.invariant-loop-j
-invariant-loop-j l = (l.after ≤ l.j)
-    × (l.j ≤ l.end)
-    × (l.end ≡ l.upto)
-    × (l.upto ≤ 65535)
-    × (l.sum ≤ 65535 * l.j)
-    × (l.sum ≡ peptides_up_to (family_of l.file) l.j - peptides_up_to (family_of l.file) l.after)
-
-abbrev pub decreases-loop-j : goal.decreases-loop-j
-decreases-loop-j l = l.end - l.j
+invariant-loop-j g l = (l.sum ≤ 65535 * l.j) × (l.sum ≡ peptides_up_to (family_of l.file) l.j - peptides_up_to (family_of l.file) l.after)

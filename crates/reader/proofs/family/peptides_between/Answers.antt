@@ -5,22 +5,22 @@ use mathlib.Core.Path.{◌≡◌, ap, ◌∙◌}
 use Rattle.reader.specs.Family.{family_of, peptides_up_to}
 use Rattle.reader.proofs.Walk.{up_to_mono, up_to_within}
 use Rattle.reader.proofs.family.peptides_between.Goals as goal
-use Rattle.reader.proofs.family.peptides_between.Goals.{After-smaller-end}
+use Rattle.reader.proofs.family.peptides_between.Goals.{After-min-end}
 
-within : (c : After-smaller-end)
-    → peptides_up_to (family_of c.args.file.now) c.smaller-end.result ≡ peptides_up_to (family_of c.args.file.now) c.args.upto.0
+within : (c : After-min-end)
+    → peptides_up_to (family_of c.args.file.now) c.min-end.result ≡ peptides_up_to (family_of c.args.file.now) c.args.upto.0
 within c =
-    up_to_within (family_of c.args.file.now) c.args.upto.0 c.smaller-end.result
-    (c.smaller-end.ensures ∙ ap (min c.args.upto.0) c.leaf_count.ensures)
+    up_to_within (family_of c.args.file.now) c.args.upto.0 c.min-end.result
+    (c.min-end.ensures ∙ ap (min c.args.upto.0) c.leaf_count.ensures)
 
 pub returns-then-end-start : goal.returns-then-end-start
 returns-then-end-start c =
-    omega (arith, within (goal.at.returns-then-end-start c).After-smaller-end, up_to_mono (family_of c.args.file.now) c.smaller-end.result c.args.after.0 c.if-end-start.true)
+    omega (arith, within (goal.at.returns-then-end-start c).After-min-end, up_to_mono (family_of c.args.file.now) c.min-end.result c.args.after.0 c.if-end-start.true)
 
 pub returns-then-file-end : goal.returns-then-file-end
 returns-then-file-end c =
-    omega (arith, c.added_one_by_one.ensures, within (goal.at.returns-then-file-end c).After-smaller-end)
+    omega (arith, c.added_lengths.ensures, within (goal.at.returns-then-file-end c).After-min-end)
 
 pub returns : goal.returns
 returns c =
-    omega (arith, c.added_lengths.ensures, within (goal.at.returns c).After-smaller-end)
+    omega (arith, c.added_lengths-2.ensures, within (goal.at.returns c).After-min-end)

@@ -2,25 +2,29 @@
 -- record begins, or 0 where the file has ended.
 use Prim.Native.Nat.{◌+◌, ◌*◌}
 use native.Mathlib.Omega.{arith}
-use mathlib.Core.Path.{sym, ◌∙◌}
+use mathlib.Core.Path.{◌≡◌, sym, ◌∙◌}
+use Rattle.reader.specs.Family.{no_region}
+use Rattle.reader.specs.Calls.{held}
 use Rattle.reader.proofs.Parsed.{leaves_read, regions_read, region_read, region_past, region_none, region_held}
 use Rattle.reader.proofs.family.region_of.Goals as goal
+use Rattle.reader.proofs.family.region_of.Goals.{After-default, then-file-lt16-via-then-file-lt16, then-file-lt16-via-else-file-lt16+then-number_within-k}
+
+zeros : (c : After-default) → held c.default.result ≡ no_region
+unfolding held
+zeros c = rw (c.default.ensures.0, c.default.ensures.1.0, c.default.ensures.1.1)
 
 pub returns-then-file-lt16 : goal.returns-then-file-lt16
 returns-then-file-lt16 c =
-    c.no_region.ensures ∙ sym (region_none c.args.file.now (omega arith) _)
-
-pub returns-then-number_within-k : goal.returns-then-number_within-k
-returns-then-number_within-k c =
-    c.no_region-then-number_within-k.ensures ∙ sym (region_past c.args.file.now _ (omega arith))
+    let s = c.args.file.now in
+    zeros c
+    ∙ elim c.then-file-lt16.branch [
+      | then-file-lt16-via-then-file-lt16 w ↦ sym (region_none s (omega (arith, w.if-file-lt16.true)) _)
+      | then-file-lt16-via-else-file-lt16+then-number_within-k w ↦ sym (region_past s _ (omega (arith, w.if-number_within-k.true, w.number_within.ensures)))
+    ]
 
 pub region_within-requires : goal.region_within-requires
 region_within-requires c =
     let s = c.args.file.now in record { k_bound = omega (arith, regions_read s); k_in_bounds = omega (arith, leaves_read s) }
-
-pub returns-then-at-file : goal.returns-then-at-file
-returns-then-at-file c =
-    c.region_within.ensures
 
 pub returns : goal.returns
 returns c =

@@ -9,18 +9,13 @@ use Rattle.reader.specs.Private.Climb.{ends_before}
 use Rattle.reader.proofs.Parsed.{held_last}
 use Rattle.reader.proofs.nesting.ends_before.Goals as goal
 
-pub returns-then-number-eq0 : goal.returns-then-number-eq0
+pub returns-then-number-ne0 : goal.returns-then-number-ne0
 unfolding ends_before
-returns-then-number-eq0 c =
-    rw c.if-number-eq0.true
-
-pub region_within-r-requires : goal.region_within-r-requires
-region_within-r-requires c =
-    let pre = c.requires in record { k_bound = omega (arith, pre.number_bound, c.if-number-eq0.false); k_in_bounds = omega (arith, pre.number_bound, pre.whole, c.if-number-eq0.false) }
-
-pub returns : goal.returns
-unfolding ends_before
-returns c =
-    let s = c.args.file.now in
+returns-then-number-ne0 c =
+    let s = c.args.file.bytes.now in
     let k = c.args.number - 1 in
-    rw (ne_eqb c.args.number 0 c.if-number-eq0.false) (ap (λ (l : ℕ). ltb l c.args.leaf.0) (held_last _ (region (family_of s) k) c.region_within-r.ensures))
+    rw (ne_eqb c.args.number 0 c.if-number-ne0.true) (ap (λ (l : ℕ). ltb l c.args.leaf.0) (held_last _ (region (family_of s) k) c.region.ensures))
+
+pub returns-else-number-ne0 : goal.returns-else-number-ne0
+unfolding ends_before
+returns-else-number-ne0 c = rw c.if-number-ne0.false

@@ -1,4 +1,4 @@
-use Rattle.std.proofs.Common.{◌≡◌, ◌<◌, sym, ◌∙◌, arith}
+use Rattle.std.proofs.Common.{◌<◌, sym, ◌∙◌, arith}
 use Rattle.reader.specs.Family.{family_of, region_count}
 use Rattle.reduction.proofs.Keeping.Gathering.{same_trans, run_at, no_run_here, no_run, run_room, run_more}
 use Rattle.reduction.proofs.keep.append_runs.Goals as goal

@@ -1,4 +1,4 @@
-use Rattle.std.proofs.Common.{◌≡◌, ◌-◌, ◌≤◌, sym, ◌∙◌, subst, set, get_or, length-set, arith}
+use Rattle.std.proofs.Common.{◌-◌, ◌≤◌, sym, ◌∙◌, set, get_or, length-set, arith}
 use Rattle.reader.specs.Family.{family_of}
 use Rattle.reduction.specs.Private.Keeping.{KeptMarked, counted}
 use Rattle.reduction.proofs.Keeping.Bounding.{next_stretch, next_same, bound_marked_more}

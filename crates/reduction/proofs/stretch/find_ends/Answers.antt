@@ -1,14 +1,14 @@
-use Prim.Native.Nat.{◌+◌}
+use Prim.Native.Nat.{ℕ, ◌+◌}
 use native.Mathlib.Omega.{arith}
 use mathlib.Core.Path.{◌≡◌, sym, subst}
 use Rattle.reader.specs.Family.{family_of, peptides_up_to}
 use Rattle.reader.proofs.Walk.{nothing_before}
-use Rattle.reduction.specs.Private.Passes.{Open}
+use Rattle.reduction.specs.Private.Passes.{Begun}
 use Rattle.reader.proofs.Walk.{up_to_leaf}
 use Rattle.bounds.proofs.Theory.Family.{leaf_most}
-use Rattle.reduction.proofs.Stretching.OpenRegions.{none_begun, none_open, regions_begin, ends_found}
+use Rattle.reduction.proofs.Stretching.OpenRegions.{none_begun, none_open, new_innermost, same_innermost, ends_found}
 use Rattle.reduction.proofs.stretch.find_ends.Goals as goal
-use Rattle.reduction.proofs.stretch.find_ends.Goals.{After-leaf_length-peptide}
+use Rattle.reduction.proofs.stretch.find_ends.Goals.{After-leaf_length-peptide, then-begun-now_begun, else-begun-now_begun}
 
 -- the last peptide of the next leaf
 sums : (c : After-leaf_length-peptide) → c.loop-passed.peptide + c.leaf_length-peptide.result ≡ peptides_up_to (family_of c.args.file.now) (c.loop-passed.passed + 1)
@@ -27,10 +27,17 @@ pub end_regions-inner-requires : goal.end_regions-inner-requires
 end_regions-inner-requires c =
     let pre = c.requires in
     let inv = c.loop-passed.invariant in
+    let now = c.begin_regions-now_begun.ensures in
     record {
       family = pre;
       sums = sums (goal.at.end_regions-inner-requires c).After-leaf_length-peptide;
-      opened = subst (Open _ _ _ _) (sym c.innermost-inner.ensures) (regions_begin _ pre.formed c.loop-passed.passed _ _ _ _ _ _ inv.begun c.begin_regions-now_begun.ensures.begun c.begin_regions-now_begun.ensures.more inv.opened);
+      opened =
+          elim c.if-begun-now_begun.branch [
+            | then-begun-now_begun w ↦ rw w.inner-is (new_innermost _ pre.formed c.loop-passed.passed _ _ _ _ _ _ inv.begun now.begun w.if-begun-now_begun.true inv.opened)
+            | else-begun-now_begun w ↦
+                let same : c.loop-passed.begun ≡ c.begin_regions-now_begun.result = omega (arith, now.more, w.if-begun-now_begun.false) in
+                rw w.inner-is (same_innermost _ pre.formed c.loop-passed.passed _ _ _ _ _ (subst (λ (k : ℕ). Begun (family_of c.args.file.now) c.loop-passed.passed k c.loop-passed.lows) same inv.begun) now.begun inv.opened)
+          ];
     }
 
 pub loop-passed-preserved : goal.loop-passed-preserved

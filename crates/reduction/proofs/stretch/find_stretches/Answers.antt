@@ -1,26 +1,21 @@
 -- The ends of the regions, then the live peptides, then the stretches.
-use Prim.Native.Nat.{ℕ}
 use native.Mathlib.Omega.{arith}
-use mathlib.Core.List.{List}
 use lib.ListN.{length-map}
 use Rattle.reduction.specs.declared.stretch.Stretch.{Stretch}
 use Rattle.reader.specs.Bytes.{IsBytes}
 use Rattle.reader.specs.Family.{family_of}
-use Rattle.reader.proofs.Accepting.{well_formed_lem}
-use Rattle.reduction.specs.Private.Passes.{WithParents, Ended}
-use Rattle.reduction.specs.Private.Steps.{Parented, firsts_of, lasts_of}
-use Rattle.reduction.proofs.Stretching.ListFronts.{known_parents, lives_begin, firsts_begin, lasts_begin}
+use Rattle.reduction.specs.Private.Passes.{Ended}
+use Rattle.reduction.specs.Private.Steps.{firsts_of, lasts_of}
+use Rattle.reduction.proofs.Keeping.HandedOn.{with_parents}
+use Rattle.reduction.proofs.Stretching.ListFronts.{lives_begin, firsts_begin, lasts_begin}
 use Rattle.reduction.proofs.stretch.find_stretches.Goals as goal
 use Rattle.reduction.proofs.stretch.find_stretches.Goals.{After-find_ends}
 
-known : (s parents : List ℕ) → IsBytes s → Parented s parents → WithParents (family_of s) parents
-known s parents bytes p = known_parents (family_of s) (well_formed_lem s bytes p.accepted) parents p.parented
-
 ended : (c : After-find_ends) → IsBytes c.args.file.now → Ended (family_of c.args.file.now) c.find_ends.new.lows c.find_ends.new.highs
-ended c bytes = record { formed = (known c.args.file.now c.args.parents.now bytes c.requires).formed; ends = c.find_ends.ensures }
+ended c bytes = record { formed = (with_parents c.args.file.now c.args.parents.now bytes c.requires).formed; ends = c.find_ends.ensures }
 
 pub find_ends-requires : goal.find_ends-requires
-find_ends-requires c = known c.args.file.now c.args.parents.now (λ i. omega (arith, c.type_inv.file i)) c.requires
+find_ends-requires c = with_parents c.args.file.now c.args.parents.now (λ i. omega (arith, c.type_inv.file i)) c.requires
 
 pub find_live-requires : goal.find_live-requires
 find_live-requires c = ended (goal.at.find_live-requires c).After-find_ends (λ i. omega (arith, c.type_inv.file i))
@@ -30,7 +25,7 @@ write_stretches-requires c = record { ended = ended (goal.at.write_stretches-req
 
 pub returns : goal.returns
 returns c =
-    let w = (known c.args.file.now c.args.parents.now (λ i. omega (arith, c.type_inv.file i)) c.requires).formed in
+    let w = (with_parents c.args.file.now c.args.parents.now (λ i. omega (arith, c.type_inv.file i)) c.requires).formed in
     record {
       lives = lives_begin _ c.find_live.new.live (omega (arith, w.peptides_most)) c.find_live.ensures;
       firsts = firsts_begin _ (firsts_of c.write_stretches.new.stretches) (omega (arith, w.regions_most, length-map c.write_stretches.new.stretches (λ (s : Stretch). s.first))) c.write_stretches.ensures.firsts_up_to;

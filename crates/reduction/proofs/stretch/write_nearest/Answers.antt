@@ -1,6 +1,5 @@
 use Prim.Native.Nat.{◌≤◌, ◌<◌, ◌+◌}
 use native.Mathlib.Omega.{arith}
-use mathlib.Core.Path.{refl}
 use lib.ListN.{get_or, length, length-map, length-set}
 use lib.Seq.{map-set}
 use Rattle.reduction.specs.declared.stretch.Stretch.{Stretch}

@@ -1,5 +1,4 @@
-use Rattle.std.proofs.Common.{◌≡◌, ◌+◌, ◌≤◌, get_or, arith}
-use Rattle.bounds.specs.Ranges.{card}
+use Rattle.std.proofs.Common.{◌+◌, arith}
 use Rattle.bounds.proofs.Basics.Counting.{card_most}
 use Rattle.reduction.specs.Private.Writing.{marked_in}
 use Rattle.reduction.proofs.Writing.LeafEnds.{count_next}

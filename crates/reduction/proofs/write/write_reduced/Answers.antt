@@ -1,11 +1,10 @@
 -- The list of the reduced ranges gives the borders, and from both the parts of the file are written one after the other.
-use Rattle.std.proofs.Common.{◌≡◌, ◌+◌, ◌*◌, ◌≤◌, ℕ, List, length, take, ap, ◌∙◌, arith}
+use Rattle.std.proofs.Common.{◌≡◌, ◌+◌, ◌*◌, ℕ, List, length, take, ap, ◌∙◌, arith}
 use Rattle.std.proofs.lemmas.List.{length-take-le}
 use Rattle.reader.specs.Bytes.{IsBytes, with_numbers}
 use Rattle.reader.specs.Family.{mark}
 use Rattle.bounds.specs.Ranges.{card}
 use Rattle.reduction.specs.Reduction.{leaf_lengths}
-use Rattle.reduction.specs.Private.Steps.{Listed}
 use Rattle.reduction.specs.Private.Writing.{OnLine, ends_at, Marks, marked_in, region_numbers}
 use Rattle.reader.proofs.Lists.{zeros}
 use Rattle.reduction.proofs.Writing.LeafEnds.{marks_itself, count_all}
