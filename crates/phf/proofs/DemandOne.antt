@@ -5,7 +5,7 @@
 -- `peptides_between`, `region_of`, the counts, `number_at`, `put_number`, `put_numbers`) have none, nor have `leaf_of` of
 -- leaves and `passes` of volcano; the program's text has a theorem of its own (`program_theorem`).
 use Prim.Native.Nat.{ℕ, ◌+◌, ◌*◌}
-use mathlib.Core.Bool.{cond}
+use mathlib.Core.Bool.{Bool, cond}
 use mathlib.Core.List.{List, [], ◌∷◌, map}
 use mathlib.Core.Path.{◌≡◌, refl, sym, ap, ◌∙◌}
 use mathlib.Core.Logic.{◌⊎◌, inl, inr, ⊎_elim, ◌↔◌}
@@ -263,6 +263,22 @@ module _ (place fileAt : ℕ × ℕ) (part file : List ℕ) (h : RegionsGiven pl
   part_of_refused : (Accepted file → ⊥) → (part ≡ []) × (place.0 ≡ fileAt.0) × (place.1 ≡ fileAt.1)
   part_of_refused r = (h.bytes ∙ part_refused file r, h.part.block, omega (arith, h.part.place, start_refused file r))
 
+-- The calls that try no path have no cause with the number 13.
+
+list_lacks : (file selections : List ℕ) (count tally room : ℕ) → Lacks 13 (list_causes file selections count tally room)
+unfolding list_causes list_inputs
+list_lacks file selections count tally room =
+    lacks_joined 13 (file_causes file) _ (file_lacks file) (omega arith, (omega arith, (omega arith, (omega arith, tt))))
+
+choose_lacks : (m : ℕ) (ps folds : List Float) (rule : Rule) (room : ℕ) → Lacks 13 (choose_causes m ps folds rule room)
+unfolding choose_causes
+choose_lacks m ps folds rule room = (omega arith, (omega arith, (omega arith, (omega arith, tt))))
+
+from_p_lacks : (file ps : List ℕ) (deviationSquared room : ℕ) → Lacks 13 (from_p_causes file ps deviationSquared room)
+unfolding from_p_causes from_p_inputs room_and_p_values
+from_p_lacks file ps deviationSquared room =
+    lacks_joined 13 (file_causes file) _ (file_lacks file) (omega arith, (omega arith, (omega arith, (omega arith, tt))))
+
 -- m, N and K, made again of the values that a check reports
 abbrev made_sizes : List ℕ → Sizes
 made_sizes vs = record { peptides = get_or vs 0 0; leaves = get_or vs 1 0; regions = get_or vs 2 0 }
@@ -305,13 +321,13 @@ demand_one =
       parents = λ file out new r h w. result_obeys sizes made_sizes (λ x. refl) (parents_causes file out) (counts (family_of file)) r (new ∷ []) _ _ h (lent_one _ _ _ _ w);
       bound = λ file selection taken new r h w. result_obeys the_number (λ vs. get_or vs 0 0) (λ x. refl) (selection_causes file selection taken) (the_number (bound_of (family_of file) selection)) r (new ∷ []) _ _ h (lent_one _ _ _ _ w);
       inside_totals = λ file selection out new r h w. result_obeys the_number (λ vs. get_or vs 0 0) (λ x. refl) (selection_causes file selection out) (the_number (bound_of (family_of file) selection)) r (new ∷ []) _ _ h (lent_one _ _ _ _ w);
-      bound_list = λ file selections count tally values new r h w. list_obeys (list_causes file selections count tally (length values)) _ tally (lacks_joined 13 (file_causes file) _ (file_lacks file) (omega arith, omega arith, omega arith, omega arith, tt)) r (new ∷ []) _ _ h (lent_one _ _ _ _ w);
-      choose = λ m ps folds rule out new r h w. verdict_obeys (choose_causes m ps folds rule (length out)) (omega arith, omega arith, omega arith, omega arith, tt) r (new ∷ []) _ _ h (lent_one _ _ _ _ w);
+      bound_list = λ file selections count tally values new r h w. list_obeys (list_causes file selections count tally (length values)) _ tally (list_lacks file selections count tally (length values)) r (new ∷ []) _ _ h (lent_one _ _ _ _ w);
+      choose = λ m ps folds rule out new r h w. verdict_obeys (choose_causes m ps folds rule (length out)) (choose_lacks m ps folds rule (length out)) r (new ∷ []) _ _ h (lent_one _ _ _ _ w);
       curve = λ file path values marks newValues newMarks r h d v w. path_result_obeys no_values (λ vs. tt) (λ x. refl) _ path [] r _ _ _ h (curve_lent file path values marks newValues newMarks v w);
       cut = λ file path a b r h. path_result_obeys the_number (λ vs. get_or vs 0 0) (λ x. refl) _ path (the_number (cut_of (family_of file) path a b)) r [] [] [] h (nothing_lent _);
       reduce = λ file out new r h w. result_obeys size_values (λ vs. record { length = get_or vs 0 0; regions = get_or vs 1 0 }) (λ x. refl) (reduce_causes file out) (reduced_counts file) r (new ∷ []) _ _ h (lent_one _ _ _ _ w);
       same = λ first second r h. pair_obeys (compare_causes first second) (same_list (reduced_file first) (reduced_file second)) r [] [] [] h (nothing_lent _);
-      bounds_from_p = λ file ps deviationSquared out new r h w. verdict_obeys (from_p_causes file ps deviationSquared (length out)) (lacks_joined 13 (file_causes file) _ (file_lacks file) (omega arith, omega arith, omega arith, omega arith, tt)) r (new ∷ []) _ _ h (lent_one _ _ _ _ w);
+      bounds_from_p = λ file ps deviationSquared out new r h w. verdict_obeys (from_p_causes file ps deviationSquared (length out)) (from_p_lacks file ps deviationSquared (length out)) r (new ∷ []) _ _ h (lent_one _ _ _ _ w);
       hybrid = λ file path ps level values new r h d w. path_result_obeys no_values (λ vs. tt) (λ x. refl) _ path [] r _ _ _ h (lent_one _ _ values new w);
       to_levels = λ file out new r h w. result_obeys the_number (λ vs. get_or vs 0 0) (λ x. refl) (to_levels_causes file (length out)) (the_number (length (level_file_of (family_of file)))) r (new ∷ []) _ _ h (lent_one _ _ _ _ w);
       from_levels = λ file out new r h w. result_obeys the_number (λ vs. get_or vs 0 0) (λ x. refl) (from_levels_causes file (length out)) (the_number (length (family_file_of file))) r (new ∷ []) _ _ h (lent_one _ _ _ _ w);
