@@ -68,7 +68,7 @@ pub fn put_number(out: &mut [u8], at: usize, n: u16)
     if at < end - 1 {
         put_within(out, at, n);
     } else {
-        put_byte(out, at, (n % 256) as u8);
+        put_byte(out, at, n.to_le_bytes()[0]);
     }
 }
 
