@@ -53,7 +53,13 @@ fn write_chosen(p_values: &[f64], folds: &[f64], rule: Rule, out: &mut [u8])
 }
 
 // The selection of the peptides whose row passes the rule, at the start of the output. A declined call leaves the output unchanged.
-pub fn choose(m: u16, p_values: &[f64], folds: &[f64], rule: Rule, out: &mut [u8]) -> Result<(), Refusal>
+pub fn choose(
+    m: u16,
+    p_values: &[f64],
+    folds: &[f64],
+    rule: Rule,
+    out: &mut [u8],
+) -> Result<(), Refusal>
     ensures choose_answers { ChooseAnswers m p_values.now folds.now rule out.old result }
     ensures choose_writes { ChooseWrites m p_values.now folds.now rule out.old out.new }
 {
