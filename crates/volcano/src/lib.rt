@@ -26,15 +26,15 @@ pub enum Rule {
     Volcano(f64, f64),
 }
 
-// Whether a row passes the rule.
+// Whether a row passes the rule. Both sides of a comparison are looked at, since a branch that cannot be foreseen costs more.
 #[tactic(auto, unfolding(crate::specs::Rules::passes))]
 pub fn passes(rule: Rule, row: Row) -> bool
     ensures { result ≡ rules.passes rule row }
 {
     match rule {
         Rule::AtMost(cut) => row.p <= cut,
-        Rule::Between(low, high) => low <= row.p && row.p <= high,
-        Rule::Volcano(cut, f) => row.p <= cut && (f <= row.fold || row.fold <= -f),
+        Rule::Between(low, high) => (low <= row.p) & (row.p <= high),
+        Rule::Volcano(cut, f) => (row.p <= cut) & ((f <= row.fold) | (row.fold <= -f)),
     }
 }
 
