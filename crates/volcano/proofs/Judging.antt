@@ -3,13 +3,14 @@
 use Prim.Native.Nat.{ℕ, ◌<◌, ◌≤◌}
 use native.Mathlib.Omega.{arith}
 use mathlib.Core.Bool.{Bool, true, false, not, cond, ◌||◌}
-use mathlib.Core.List.{List}
-use mathlib.Core.Path.{◌≡◌, refl, sym}
+use mathlib.Core.List.{List, [], ◌∷◌}
+use mathlib.Core.Path.{◌≡◌, refl, sym, ◌∙◌}
 use lib.ListN.{length, get_or}
 use lib.Dec.{eqb}
 use lib.Ieee.{Float, nan}
 use borrow.Author.Tests.{eqb-true, ltb-false, not-false}
-use Rattle.std.specs.List.{list_any}
+use Rattle.std.specs.List.{fold, list_any}
+use Rattle.std.proofs.Math.Bool.{or_assoc}
 use Rattle.std.proofs.lemmas.List.Recursion.{or_is}
 use Rattle.reader.specs.Causes.{first_cause, cause2}
 use Rattle.reader.specs.Calls.{short}
@@ -37,10 +38,16 @@ any_below t d L =
     (or_is (list_any t) t refl (λ x xs. refl) L d (some_below (length L) at)
     (found at (length L)) (λ e i l. none_at at (length L) i e l))
 
+-- a pass over a list that remembers whether an element has passed the test
+pass_any : {A : Type 0} (t : A → Bool) (before : Bool) (L : List A) → fold (λ b x. b || t x) before L ≡ before || list_any t L
+pass_any t true [] = refl
+pass_any t false [] = refl
+pass_any t before (x ∷ L) = pass_any t (before || t x) L ∙ or_assoc before (t x) (list_any t L)
+
 module _ (ps folds : List Float) where
-  pub rows_judged : list_any off_scale ps || list_any not_finite folds ≡ cause18 ps folds
+  pub rows_judged : fold (λ b p. b || off_scale p) false ps || fold (λ b x. b || not_finite x) false folds ≡ cause18 ps folds
   unfolding cause18
-  rows_judged = rw (any_below off_scale nan ps, any_below not_finite nan folds)
+  rows_judged = rw (pass_any off_scale false ps, pass_any not_finite false folds, any_below off_scale nan ps, any_below not_finite nan folds)
 
 pub lengths_match : (m : ℕ) (ps folds : List Float) (room : ℕ) → cause17 m ps folds room ≡ false → (length ps ≡ m) × (length folds ≡ m) × (m ≤ room)
 unfolding cause17 short

@@ -32,11 +32,15 @@ fn off_scale(p: f64) -> bool
     !(0.0 <= p && p <= 1.0)
 }
 
-// A p that is not a number or outside 0 to 1, or a fold not finite.
+// A p that is not a number or outside 0 to 1, or a fold not finite. All are looked at: a way out after each costs more.
 fn bad_rows(p_values: &[f64], folds: &[f64]) -> bool
     ensures { result ≡ cause18 p_values.now folds.now }
 {
-    p_values.iter().any(|p| off_scale(*p)) || folds.iter().any(|fold| !fold.is_finite())
+    let bad_p = p_values.iter().fold(false, |bad, p| bad | off_scale(*p));
+    let bad_fold = folds
+        .iter()
+        .fold(false, |bad, fold| bad | !fold.is_finite());
+    bad_p | bad_fold
 }
 
 // A cut or f that is not a number, or f under 0.
@@ -52,7 +56,13 @@ fn bad_rule(rule: Rule) -> bool
 }
 
 // Declines a choice with an output of so many places for the first cause that holds.
-pub(crate) fn check_choice(m: u16, p_values: &[f64], folds: &[f64], rule: Rule, room: usize) -> Result<(), Refusal>
+pub(crate) fn check_choice(
+    m: u16,
+    p_values: &[f64],
+    folds: &[f64],
+    rule: Rule,
+    room: usize,
+) -> Result<(), Refusal>
     ensures { verdict result ≡ first_cause (choose_causes m p_values.now folds.now rule room) }
 {
     if bad_count(m) {

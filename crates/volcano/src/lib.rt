@@ -26,15 +26,15 @@ pub enum Rule {
     Volcano(f64, f64),
 }
 
-// Whether a row passes the rule.
+// Whether a row passes the rule. Both sides of a comparison are looked at, since a branch that cannot be foreseen costs more.
 #[tactic(auto, unfolding(crate::specs::Rules::passes))]
 pub fn passes(rule: Rule, row: Row) -> bool
     ensures { result ≡ rules.passes rule row }
 {
     match rule {
         Rule::AtMost(cut) => row.p <= cut,
-        Rule::Between(low, high) => low <= row.p && row.p <= high,
-        Rule::Volcano(cut, f) => row.p <= cut && (f <= row.fold || row.fold <= -f),
+        Rule::Between(low, high) => (low <= row.p) & (row.p <= high),
+        Rule::Volcano(cut, f) => (row.p <= cut) & ((f <= row.fold) | (row.fold <= -f)),
     }
 }
 
@@ -53,7 +53,13 @@ fn write_chosen(p_values: &[f64], folds: &[f64], rule: Rule, out: &mut [u8])
 }
 
 // The selection of the peptides whose row passes the rule, at the start of the output. A declined call leaves the output unchanged.
-pub fn choose(m: u16, p_values: &[f64], folds: &[f64], rule: Rule, out: &mut [u8]) -> Result<(), Refusal>
+pub fn choose(
+    m: u16,
+    p_values: &[f64],
+    folds: &[f64],
+    rule: Rule,
+    out: &mut [u8],
+) -> Result<(), Refusal>
     ensures choose_answers { ChooseAnswers m p_values.now folds.now rule out.old result }
     ensures choose_writes { ChooseWrites m p_values.now folds.now rule out.old out.new }
 {
