@@ -10,33 +10,26 @@ use lib.Dec.{eqb}
 use borrow.Author.Tests.{ne_eqb, eqb-true, eqb-false, le-ltb, ltb-false, not-true, not-false}
 use Rattle.reader.specs.Family.{Family, family_of}
 use Rattle.reader.specs.Causes.{Cause, first_cause, header_causes, family_causes, file_causes, Accepted}
-use Rattle.reader.specs.Calls.{Report, short}
+use Rattle.reader.specs.Calls.{short}
 use Rattle.reader.proofs.Bools.{or_neither}
 use Rattle.reader.proofs.Lists.{length_tabulate}
 use Rattle.reader.proofs.First.{Numbered, first_fails, head_clear, join_clear, join_holds, clear_left, clear_right, none_or_some}
 use Rattle.reader.proofs.Judged.{peptides_counted}
 use Rattle.reader.proofs.Accepting.{accepted_header, file_numbered}
 use Rattle.bounds.specs.Curves.{curve_values, curve_marks, entry, mark_at, cause11}
-use Rattle.bounds.specs.declared.Curved.{Curved}
-use Rattle.bounds.specs.declared.Curved.TheVariants as curved
-use Rattle.bounds.specs.Calls.{report_curve, declined_curve, path_causes, input_causes, curve_causes, path_answer}
-use Rattle.bounds.proofs.Calls.Answering.{path_number}
+use Rattle.bounds.specs.Calls.{path_causes, input_causes, curve_causes}
 use Rattle.curve.specs.Text.{heading, rows, row_at, line_of, table_of, refusal}
 use Rattle.curve.specs.Program.{path_of, odd, program_causes, text_of, output}
 
 -- The number.
 
 module _ (s bytes : List ℕ) where
-  pub refused_family : (first_cause (file_causes s) ≡ 0 → ⊥) → first_cause (program_causes s bytes) ≡ first_cause (file_causes s)
-  unfolding program_causes
-  refused_family h = join_holds (file_causes s) _ h
-
   pub odd_path : Accepted s → odd bytes ≡ true → first_cause (program_causes s bytes) ≡ 11
   unfolding program_causes first_cause
   odd_path a o = join_clear (file_causes s) _ (file_numbered s) a ∙ rw o
 
   -- with an even byte count the program's causes are those of the family and the path
-  even_number : odd bytes ≡ false → first_cause (program_causes s bytes) ≡ first_cause (input_causes s (path_of bytes))
+  pub even_number : odd bytes ≡ false → first_cause (program_causes s bytes) ≡ first_cause (input_causes s (path_of bytes))
   unfolding program_causes input_causes
   even_number o =
       ⊎_elim
@@ -48,16 +41,9 @@ module _ (s bytes : List ℕ) where
   unfolding output
   even_path o = ap (λ (n : ℕ). text_of n s (path_of bytes)) (even_number o)
 
-  pub odd_text : (n : ℕ) → odd bytes ≡ true → n ≡ first_cause (program_causes s bytes) → (n ≡ 0 → ⊥) → output s bytes ≡ refusal n
+  pub prints_refusal : (n : ℕ) → n ≡ first_cause (program_causes s bytes) → (n ≡ 0 → ⊥) → output s bytes ≡ refusal n
   unfolding output text_of
-  odd_text n o e h = rw (← e, ne_eqb n 0 h)
-
-  pub odd_refused : odd bytes ≡ true → first_cause (program_causes s bytes) ≡ 0 → ⊥
-  odd_refused o z =
-      ⊎_elim
-      (λ a. omega (arith, odd_path a o))
-      (λ r. r (sym (refused_family r) ∙ z))
-      (none_or_some (file_causes s))
+  prints_refusal n e h = rw (← e, ne_eqb n 0 h)
 
 inputs_numbered : (s path : List ℕ) → Numbered (input_causes s path)
 unfolding input_causes file_causes header_causes family_causes path_causes
@@ -71,10 +57,6 @@ room path values marks lv lm few =
     rw (or_neither (short (length path + 1) (length values)) (short (length path) (length marks)) (le-ltb (length values) (length path + 1) (omega arith)) (le-ltb (length marks) (length path) (omega arith)))
 
 module _ (s path : List ℕ) where
-  pub prints_refusal : (n : ℕ) → n ≡ first_cause (input_causes s path) → (n ≡ 0 → ⊥) → text_of (first_cause (input_causes s path)) s path ≡ refusal n
-  unfolding text_of
-  prints_refusal n e h = rw (← e, ne_eqb n 0 h)
-
   pub prints_table :
       first_cause (input_causes s path) ≡ 0
       → text_of (first_cause (input_causes s path)) s path ≡ table_of path (curve_values (family_of s) path) (curve_marks (family_of s) path)
@@ -125,26 +107,3 @@ values_room F path = omega (arith, length_tabulate (length path + 1) (entry F pa
 pub marks_room : (F : Family) (path : List ℕ) → length path ≤ length (curve_marks F path)
 unfolding curve_marks
 marks_room F path = omega (arith, length_tabulate (length path) (λ i. mark_at F path (i + 1)))
-
--- What the curve's answer says of the first cause.
-
-module _ (cs : List Cause) (r : Curved) (told : declined_curve r ≡ not (eqb (first_cause cs) 0)) where
-  pub written_clear : r ≡ curved.Written → first_cause cs ≡ 0
-  unfolding declined_curve
-  written_clear e = eqb-true (first_cause cs) 0 (not-false (eqb (first_cause cs) 0) (sym told ∙ ap declined_curve e))
-
-  pub refused_some : (n : ℕ) → r ≡ curved.Refused n → first_cause cs ≡ 0 → ⊥
-  unfolding declined_curve
-  refused_some n e = eqb-false (first_cause cs) 0 (not-true (eqb (first_cause cs) 0) (sym told ∙ ap declined_curve e))
-
-module _ (cs : List Cause) (path : List ℕ) (r : Curved) (a : report_curve r ≡ path_answer cs path []) where
-  number_told : (report_curve r).number ≡ first_cause cs
-  number_told = ap (λ (t : Report). t.number) a ∙ path_number cs path []
-
-  pub refused_number : (n : ℕ) → r ≡ curved.Refused n → n ≡ first_cause cs
-  unfolding report_curve
-  refused_number n e = ap (λ (q : Curved). (report_curve q).number) (sym e) ∙ number_told
-
-  pub repeated_number : (p : ℕ) → r ≡ curved.Repeated p → ◌≡◌ {A = ℕ} 13 (first_cause cs)
-  unfolding report_curve
-  repeated_number p e = ap (λ (q : Curved). (report_curve q).number) (sym e) ∙ number_told

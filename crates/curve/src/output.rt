@@ -1,54 +1,42 @@
 // From the bytes of the two files to the text that the program prints, and the printing of it.
-ghost use Rattle.std.specs.Prelude.{◌≡◌, true, List, ℕ};
+ghost use Rattle.std.specs.Prelude.{◌≡◌, ◌≤◌, length, MatchResult};
 ghost use Rattle.reader.specs.Causes.{first_cause};
-ghost use Rattle.bounds.specs.Calls.{input_causes};
-ghost use Rattle.curve.specs.Program.{program_causes, odd, text_of, output};
+ghost use Rattle.reader.specs.Refusals.{number_of};
+ghost use Rattle.curve.specs.Buffers.{path_room};
+ghost use Rattle.curve.specs.Program.{program_causes, output};
 
 use crate::buffer::Buffer;
 use crate::input::{FAMILY_ROOM, PATH_ROOM, decode};
 use crate::text::{Text, refusal_text, table_text};
-use bounds::Curved;
-use reader::Checked;
+use reader::check;
+use reader::refusal::Refusal;
 
-// The number of a refusal where the path has an odd byte count: the family's, if it has one, comes before it.
-fn odd_path_number(family: &[u8]) -> u16
-    ensures { (bytes : List ℕ) → odd bytes ≡ true → result ≡ first_cause (program_causes family.now bytes) }
+// The table of the path's curve, or the first refusal. An odd byte count of the path is refused like a path that is too long, after
+// what is wrong with the family.
+fn curve_table(family: &[u8], path: &[u8]) -> Result<Text, Refusal>
+    requires { length path.now ≤ path_room }
+    ensures { MatchResult result (λ text. text ≡ output family.now path.now) (λ refusal. number_of refusal ≡ first_cause (program_causes family.now path.now)) }
 {
-    match reader::check(family) {
-        Checked::Family {
-            peptides: _,
-            leaves: _,
-            regions: _,
-        } => 11,
-        Checked::Refused(number) => number,
+    if path.len() % 2 == 1 {
+        check(family)?;
+        return Err(Refusal::PathLength);
     }
-}
-
-// The text for a path: the curve's table, or the number of its refusal.
-fn curve_text(family: &[u8], path: &[u16]) -> Text
-    ensures { result ≡ text_of (first_cause (input_causes family.now path.now)) family.now path.now }
-{
+    let mut numbers = [0u16; 4097];
+    let n = decode(path, &mut numbers);
     let mut values = [0u16; 4097];
     let mut marks = [0u8; 4096];
-    match bounds::curve(family, path, &mut values, &mut marks) {
-        Curved::Written => table_text(path, &values, &marks),
-        Curved::Refused(number) => refusal_text(number),
-        Curved::Repeated(_) => refusal_text(13),
-    }
+    bounds::curve(family, &numbers[..n], &mut values, &mut marks)?;
+    Ok(table_text(&numbers[..n], &values, &marks))
 }
 
 // What the program prints, from the bytes of the two files.
 pub(crate) fn render(family: &Buffer<FAMILY_ROOM>, path: &Buffer<PATH_ROOM>) -> Text
     ensures { result ≡ output family.now path.now }
 {
-    let family = family.as_slice();
-    let path = path.as_slice();
-    if path.len() % 2 == 1 {
-        return refusal_text(odd_path_number(family));
+    match curve_table(family.as_slice(), path.as_slice()) {
+        Ok(text) => text,
+        Err(refusal) => refusal_text(refusal),
     }
-    let mut numbers = [0u16; 4097];
-    let n = decode(path, &mut numbers);
-    curve_text(family, &numbers[..n])
 }
 
 // A line on standard error tells a cut table from a whole one.

@@ -1,10 +1,12 @@
 // The program's text, written piece by piece.
 ghost use Rattle.std.specs.Prelude.{◌≡◌, ◌+◌, ◌++◌, ◌≤◌, length};
-ghost use Rattle.curve.specs.Text.{field_of, line_of, table_of, refusal};
+ghost use Rattle.reader.specs.Refusals.{number_of};
+ghost use Rattle.curve.specs.Text.{field_of, line_of, table_of, refusal as refusal_line};
 ghost use Rattle.curve.specs.Buffers.{text_room};
 
 use crate::buffer::Buffer;
 use reader::family::Peptide;
+use reader::refusal::Refusal;
 
 // The heading has 21 bytes, and each of at most 4,097 lines four numbers of at most 5 digits with a byte after each:
 // 21 + 24 * 4,097.
@@ -49,11 +51,11 @@ pub(crate) fn table_text(path: &[u16], values: &[u16; 4097], marks: &[u8; 4096])
 }
 
 // One line with the number of a refusal.
-pub(crate) fn refusal_text(number: u16) -> Text
-    ensures { result ≡ refusal number }
+pub(crate) fn refusal_text(refusal: Refusal) -> Text
+    ensures { result ≡ refusal_line (number_of refusal) }
 {
     let mut text = Buffer::new();
     text.extend(b"refused ");
-    put_field(&mut text, number, b'\n');
+    put_field(&mut text, u16::from(refusal), b'\n');
     text
 }

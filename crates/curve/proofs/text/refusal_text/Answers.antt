@@ -4,4 +4,4 @@ use Rattle.curve.proofs.text.refusal_text.Goals as goal
 
 pub returns : goal.returns
 unfolding refusal
-returns c = rw (c.put_field.ensures, c.extend.ensures, c.new-text.ensures)
+returns c = rw (c.put_field.ensures, c.extend.ensures, c.new-text.ensures, c.from.ensures)
