@@ -10,8 +10,9 @@ use reader::family::{
     Leaf, Peptide, leaf_count, leaf_length, peptide_count, region_count, region_of,
 };
 
-// The low and high ends of the regions. Two arrays and not one of pairs, as their places hold other numbers afterwards (fixed
-// memory).
+// The low and high ends of the regions. Two arrays and not one of pairs: their places hold the weights and then the ranges
+// afterwards (fixed memory), and an array of pairs for all three could not name them. That they are right is asked by the
+// functions: as a ghost field it did not prove, which wants a fact with one proof, and nesting is an "or".
 #[derive(Clone, Copy)]
 struct RegionEnds<'a> {
     lows: &'a [u16; 8191],
