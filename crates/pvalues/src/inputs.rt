@@ -51,7 +51,9 @@ fn input_cause(file: &[u8], p_values: &[u32], deviation_squared: u32, room: usiz
     if 100000000 < deviation_squared { 22 } else { 0 }
 }
 
-// The first cause that holds, or 0 with the parents of the regions written.
+// The first cause that holds, or 0 with the parents of the regions written. What the file is judged with lies on the stack only while
+// this function runs, so that the ordering and the climbs need no stack beside it.
+#[inline(never)]
 pub(crate) fn from_p_cause(
     file: &[u8],
     p_values: &[u32],
