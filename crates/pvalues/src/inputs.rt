@@ -65,7 +65,9 @@ fn check_inputs(
     Ok(())
 }
 
-// Declines by the first cause; where none holds, the parents of the regions are written.
+// Declines by the first cause; where none holds, the parents of the regions are written. What the file is judged with lies on the stack
+// only while this function runs, so that the ordering and the climbs need no stack beside it.
+#[inline(never)]
 pub(crate) fn check_from_p(
     file: &[u8],
     p_values: &[u32],
