@@ -33,10 +33,6 @@ slice_bounds-copy_from_slice-end-2 c =
     let h = header_facts _ (ready (goal.at.slice_bounds-copy_from_slice-end-2 c).In_ok-check_level_file).headed in
     omega (arith, h.whole, h.leaves_most, header_few _ (ready (goal.at.slice_bounds-copy_from_slice-end-2 c).In_ok-check_level_file).headed)
 
-pub overflow_cast-result : goal.overflow_cast-result
-overflow_cast-result c =
-    let h = header_facts _ (ready (goal.at.overflow_cast-result c).In_ok-check_level_file).headed in omega (arith, h.whole, h.leaves_most, h.regions_most)
-
 pub returns : goal.returns
 returns c =
     let s = c.args.file.now in

@@ -24,10 +24,6 @@ returns-then-out-needed c =
     let r = to_short c.args.file.now c.args.out.now (accepted (goal.at.returns-then-out-needed c).In_ok-find_levels) c.if-out-needed.true in
     record { to_levels_answers = r.0; to_levels_writes = r.1 }
 
-pub write_by_level-requires : goal.write_by_level-requires
-write_by_level-requires c =
-    record { accepted = accepted (goal.at.write_by_level-requires c).In_ok-find_levels; levels_below = c.in_ok-find_levels.ensures.levels refl; file_in_bounds = c.if-out-needed.false }
-
 pub overflow_cast-result : goal.overflow_cast-result
 overflow_cast-result c =
     let s = c.args.file.now in

@@ -37,7 +37,3 @@ loop-k-preserved c =
           (c.one_deeper.ensures ∙ deeper_is _ _ pre _ k (here (goal.at.loop-k-preserved c).In-loop-k) inv.1 _ (parent (goal.at.loop-k-preserved c).In-loop-k)),
       λ i l. get_or-set_other levels k i c.one_deeper.result 0 (λ e. omega arith) ∙ inv.2 i (omega arith),
     )
-
-pub returns : goal.returns
-returns c =
-    λ k l. c.loop-k.invariant.1 k (omega (arith, c.loop-k.invariant.0))

@@ -11,10 +11,6 @@ pub loop-h-init : goal.loop-h-init
 loop-h-init c =
     (omega arith, counts_none c.args.list.now.file.now)
 
-pub overflow_add-sum : goal.overflow_add-sum
-overflow_add-sum c =
-    omega (arith, c.loop-h.invariant.0)
-
 pub loop-h-preserved : goal.loop-h-preserved
 loop-h-preserved c =
     let l = c.loop-h in

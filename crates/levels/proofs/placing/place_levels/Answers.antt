@@ -14,7 +14,3 @@ loop-i-preserved c =
     (omega (arith, c.requires.in_placed _ (in_at 0 c.args.order.now i (omega arith))))
     (λ q l e. c.requires.one_level q i l (omega arith) e)
     c.loop-i.invariant
-
-pub returns : goal.returns
-returns c =
-    λ q l. c.loop-i.invariant q (omega arith)

@@ -1,7 +1,7 @@
 use Prim.Native.Nat.{◌+◌, ◌<◌}
 use native.Mathlib.Omega.{arith}
 use native.Mathlib.Numerals.{add-one}
-use mathlib.Core.Path.{◌≡◌, refl, sym, ◌∙◌}
+use mathlib.Core.Path.{refl, sym, ◌∙◌}
 use Rattle.reader.specs.Family.{region_count}
 use Rattle.reader.proofs.Below.{none_below_zero, none_more, some_at}
 use Rattle.reader.proofs.Parsed.{held_first}
@@ -29,20 +29,12 @@ pub bounds-levels-k : goal.bounds-levels-k
 bounds-levels-k c =
     omega (arith, here (goal.at.bounds-levels-k c).In-loop-i, header_few c.args.list.now.file.now c.args.list.now.headed)
 
-pub overflow_add-before : goal.overflow_add-before
-overflow_add-before c =
-    omega (arith, c.requires.before_bound.0)
-
 pub returns-then-levels-k : goal.returns-then-levels-k
 returns-then-levels-k c =
     let a = c.args in
     let i = c.loop-i.i in
     sym (some_at _ a.count i (omega arith) (other_level (counts_in a.list.now.file.now) (listed_family a.list.now.file.now) a.before a.start c.requires.before_bound.2 i
     (λ e. c.if-levels-k.true (c.requires.levels_below (a.start + i) (here (goal.at.returns-then-levels-k c).In-loop-i) ∙ e ∙ sym (add-one a.before)))))
-
-pub region-region-requires : goal.region-region-requires
-region-region-requires c =
-    here (goal.at.region-region-requires c).In-loop-i
 
 pub returns-then-first-leaf : goal.returns-then-first-leaf
 returns-then-first-leaf c =
@@ -65,8 +57,3 @@ loop-i-preserved c =
           (sym (c.requires.levels_below (a.start + i) (here (goal.at.loop-i-preserved c).In-loop-i)) ∙ c.if-levels-k.false ∙ add-one a.before)
           (omega (arith, c.if-first-leaf.false, first, c.loop-i.invariant.0))),
     )
-
-pub returns : goal.returns
-returns c =
-    let end : c.loop-i.i ≡ c.args.count = omega arith in
-    sym (rw end at c.loop-i.invariant.1)

@@ -40,8 +40,3 @@ loop-h-preserved c =
       omega (arith, counts_more c.args.list.now.file.now l.h (omega arith), l.invariant.0, c.number_at-count.ensures),
       none_more (wrong_in c.args.list.now.file.now) l.h l.invariant.1 (rw (c.wrong_in_level.ensures, count (goal.at.loop-h-preserved c).After-number_at-count) at c.if-wrong_in_level.false),
     )
-
-pub returns : goal.returns
-returns c =
-    let end : c.loop-h.h ≡ 64 = omega arith in
-    sym (rw end at c.loop-h.invariant.1)
