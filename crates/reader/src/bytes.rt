@@ -87,14 +87,14 @@ pub fn put_numbers(out: &mut [u8], at: usize, numbers: &[u16])
     }
 }
 
-// The smaller of two numbers.
+// The smaller of two numbers: a call that README promises, so that it stays beside the library's method.
 pub fn smaller(a: u16, b: u16) -> u16
     ensures { result ≡ min a b }
 {
     a.min(b)
 }
 
-// Whether two slices hold the same bytes.
+// Whether two slices hold the same bytes: a call that README promises, so that it stays beside the operator.
 pub fn same_bytes(a: &[u8], b: &[u8]) -> bool
     ensures { result ≡ same_list a.now b.now }
 {

@@ -34,7 +34,7 @@ pub fn check_header(file: &[u8], mark: &[u8; 4], lengths_at: u16) -> Result<(), 
 }
 
 // Declines by the first of the causes 2 to 5 that holds, of a file with its leaf lengths from that byte on.
-fn check_layout(file: &[u8], lengths_at: u16) -> Result<(), Refusal>
+pub fn check_layout(file: &[u8], lengths_at: u16) -> Result<(), Refusal>
     ensures { verdict result ≡ first_cause (layout_causes lengths_at file.now) }
 {
     let m = number_at(file, 4);
