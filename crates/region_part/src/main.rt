@@ -7,7 +7,8 @@ ghost use Rattle.std.specs.Counts.{IsPrefixLen};
 use std::fs::File;
 use std::io::Read;
 
-// Reads until the buffer is full, the file ends or a read fails; returns how many bytes were read.
+// Reads until the buffer is full, the file ends or a read fails; returns how many bytes were read. What came before a failure counts
+// here, and does not in the curve program, so the two loops are two.
 fn read_full(file: &mut impl Read, bytes: &mut [u8]) -> usize
     ensures { IsPrefixLen result bytes.new }
 {
@@ -25,6 +26,6 @@ fn main(rt: HostRuntime) {
     if let Ok(mut file) = File::open(&rt, "family.phf") {
         let mut family = [0u8; 57355];
         let n = read_full(&mut file, &mut family);
-        let _ = rt.write_all(reader::regions(&family[0..n]));
+        let _ = rt.write_all(reader::regions(&family[..n]));
     }
 }
