@@ -18,7 +18,7 @@ struct Weights {
     around: u16,
 }
 
-// The weights of each region.
+// The weights of each region. Two arrays and not one of pairs, as their places serve other numbers too.
 #[derive(Clone, Copy)]
 struct WeightsOf<'a> {
     least: &'a [u16],
@@ -26,7 +26,7 @@ struct WeightsOf<'a> {
 }
 
 // The list of the reduced ranges, while it is written: the first peptide, the last one and the bound of each of the first
-// `count`.
+// `count`. Three arrays and not one of ranges, as their places serve other numbers too.
 #[derive(Drop)]
 struct Ranges<'a> {
     from: &'a mut [u16],
@@ -47,10 +47,10 @@ fn stretch_at(stretches: &[Stretch], k: u16) -> Stretch
     ensures first { result.first ≡ get_or (firsts_of stretches.now) k 0 }
     ensures last { result.last ≡ get_or (lasts_of stretches.now) k 0 }
 {
-    match stretches.get(k as usize) {
-        Some(stretch) => *stretch,
-        None => Stretch { first: 0, last: 0 },
-    }
+    stretches
+        .get(k as usize)
+        .copied()
+        .unwrap_or(Stretch { first: 0, last: 0 })
 }
 
 // Whether two regions have the same stretch.
@@ -162,8 +162,8 @@ fn weigh(
     }
 }
 
-// The z of the k-th region's stretch if it is kept and no later region has it, else 0. `next` is the next region with a
-// stretch. Of regions with the same stretch only the last, innermost one knows the room.
+// The z of the k-th region's stretch if it is kept and no later region has it, else 0, which an array of numbers has room for.
+// `next` is the next region with a stretch. Of regions with the same stretch only the last, innermost one knows the room.
 #[tactic(auto, unfolding(crate::specs::Private::Keeping::kept_bound))]
 fn kept_bound(
     totals: &[u16],

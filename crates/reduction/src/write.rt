@@ -13,7 +13,8 @@ use crate::Size;
 use reader::bytes::{put_number, put_numbers};
 use reader::family::peptide_count;
 
-// The reduced ranges in file order: the first peptide, the last one and the bound of each.
+// The reduced ranges in file order: the first peptide, the last one and the bound of each. Three arrays and not one of ranges, as
+// their places serve other numbers too.
 #[derive(Clone, Copy)]
 struct Ranges<'a> {
     from: &'a [u16],
@@ -22,7 +23,8 @@ struct Ranges<'a> {
 }
 
 // Writes the mark and the six numbers of the header of a file with its leaf lengths from that byte on; the answer is the last of
-// them, the length of the file.
+// them, the length of the file. Its twin is in levels: one function for both would be public, and none of these may ask that the
+// sums fit.
 fn write_header(
     out: &mut [u8],
     mark: &[u8; 4],
@@ -77,8 +79,7 @@ fn borders_between(borders: &[bool; 4097], after: u16, upto: u16) -> u16
 
 // Writes the length of each leaf, from one leaf end to the next.
 fn write_lengths(m: u16, borders: &[bool; 4097], out: &mut [u8])
-    requires on_line { m ≤ 4096 }
-    requires room { 16 + 2 * card m (marked_in borders.now) ≤ length out.old }
+    requires { m ≤ 4096 }
     ensures { out.new ≡ with_numbers out.old 16 (leaf_lengths m (marked_in borders.now)) }
 {
     let mut at = 16;

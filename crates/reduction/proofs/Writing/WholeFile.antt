@@ -168,7 +168,6 @@ pub record Room (m n N : ℕ) (E : List Bool) (room : ℕ) : Type 0 where
   pub line : m ≤ 4096
   pub few_leaves : N ≤ 4096
   pub few_regions : n ≤ 8191
-  pub leaf_lengths_lem : N ≡ card m (marked_in E)
   pub enough : 16 + 2 * N + 6 * n ≤ room
 
 -- What is written from the list of the reduced ranges of an accepted file.
@@ -230,7 +229,6 @@ module _ (s : List ℕ) (bytes : IsBytes s) (accepted : Accepted s) (n : ℕ) (A
             line = omega (arith, line, formed.peptides_most);
             few_leaves = omega (arith, leaf_count, w.leaves_most, w.peptides_most);
             few_regions = omega (arith, regions_there);
-            leaf_lengths_lem = count;
             enough = omega (arith, leaf_count, regions_there, file_length G, fits);
           }
         where

@@ -59,10 +59,7 @@ write_header-total-requires c =
     record { leaves_bound = r.few_leaves; regions_bound = r.few_regions; lengths_at_bound = omega arith; room = omega (arith, r.enough) }
 
 pub write_lengths-requires : goal.write_lengths-requires
-write_lengths-requires c =
-    let a = goal.at.write_lengths-requires c in
-    let r = room a.After-borders_between-leaves (λ i. omega (arith, c.type_inv.file i)) (marks a.After-mark_borders (many a.After-peptide_count-m)) in
-    record { on_line = r.line; room = omega (arith, r.enough, r.leaf_lengths_lem, c.write_header-total.auto.out) }
+write_lengths-requires c = (on_line (goal.at.write_lengths-requires c).After-peptide_count-m (λ i. omega (arith, c.type_inv.file i))).line
 
 pub write_regions-requires : goal.write_regions-requires
 write_regions-requires c =
