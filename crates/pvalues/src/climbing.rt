@@ -31,7 +31,7 @@ fn lower_regions(
     while number != 0 {
         let k = (number as usize) - 1;
         number = parents[k];
-        regions[k] = regions[k].lowered(p, deviation_squared);
+        regions[k].lower(p, deviation_squared);
     }
 }
 

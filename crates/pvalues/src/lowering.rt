@@ -13,18 +13,15 @@ pub(crate) struct Lowering {
 
 impl Lowering {
     // One of its p-values, no less than those before it, is no longer left.
-    pub(crate) fn lowered(self, p: u32, deviation_squared: u32) -> Lowering
+    pub(crate) fn lower(&mut self, p: u32, deviation_squared: u32)
         requires p_bound { p ≤ 1000000 }
         requires constant_bound { deviation_squared ≤ 100000000 }
-        requires z_bound { self.z ≤ 4096 }
-        ensures left { result.left ≡ self.left - 1 }
-        ensures z { result.z ≡ lower_at deviation_squared p self.left self.z }
+        requires z_bound { self.old.z ≤ 4096 }
+        ensures left { self.new.left ≡ self.old.left - 1 }
+        ensures z { self.new.z ≡ lower_at deviation_squared p self.old.left self.old.z }
     {
-        let over = self.left.saturating_sub(1);
-        Lowering {
-            left: over,
-            z: largest_passing(deviation_squared, 1000000 - p, over, self.z),
-        }
+        self.left = self.left.saturating_sub(1);
+        self.z = largest_passing(deviation_squared, 1000000 - p, self.left, self.z);
     }
 }
 

@@ -38,10 +38,10 @@ pub returns : goal.returns
 returns c =
     λ F leaf n h. let known = c.loop-number.invariant.4 F leaf n h in lowered_ends F leaf _ _ _ _ _ _ _ c.loop-number-test.false known.1 known.2
 
-pub lowered-requires-clause-z_bound : goal.lowered-requires-clause-z_bound
-lowered-requires-clause-z_bound c =
+pub lower-requires-clause-z_bound : goal.lower-requires-clause-z_bound
+lower-requires-clause-z_bound c =
     let n = c.loop-number.number - 1 in
-    omega (arith, z_read c.loop-number.regions n, c.loop-number.invariant.3 n (omega (arith, c.loop-number-test.true)), (here (goal.at.lowered-requires-clause-z_bound c).In-loop-number).2)
+    omega (arith, z_read c.loop-number.regions n, c.loop-number.invariant.3 n (omega (arith, c.loop-number-test.true)), (here (goal.at.lower-requires-clause-z_bound c).In-loop-number).2)
 
 pub loop-number-preserved : goal.loop-number-preserved
 loop-number-preserved c =
@@ -50,20 +50,20 @@ loop-number-preserved c =
     let n = c.loop-number.number - 1 in
     let h = here (goal.at.loop-number-preserved c).In-loop-number in
     let R = c.loop-number.regions in
-    let left : c.lowered.result.left ≡ one_less (left_of_each c.args.regions.now) n =
-    c.lowered.ensures.left ∙ ap (λ (l : ℕ). l - 1) (sym (left_read R n) ∙ inv.2 n (omega arith)) in
-    let z : c.lowered.result.z ≡ lowered_at c.args.deviation_squared c.args.p (left_of_each c.args.regions.now) (z_of_each c.args.regions.now) n =
-    c.lowered.ensures.z ∙ ap₂ (λ (l z : ℕ). lower_at c.args.deviation_squared c.args.p l z) (sym (left_read R n) ∙ inv.2 n (omega arith)) (sym (z_read R n) ∙ inv.3 n (omega arith)) in (
+    let left : c.lower.new.self.left ≡ one_less (left_of_each c.args.regions.now) n =
+    c.lower.ensures.left ∙ ap (λ (l : ℕ). l - 1) (sym (left_read R n) ∙ inv.2 n (omega arith)) in
+    let z : c.lower.new.self.z ≡ lowered_at c.args.deviation_squared c.args.p (left_of_each c.args.regions.now) (z_of_each c.args.regions.now) n =
+    c.lower.ensures.z ∙ ap₂ (λ (l z : ℕ). lower_at c.args.deviation_squared c.args.p l z) (sym (left_read R n) ∙ inv.2 n (omega arith)) (sym (z_read R n) ∙ inv.3 n (omega arith)) in (
       omega (arith, inv.0, h.1),
       simp length-set inv.1,
-      λ i l. left_other R n i c.lowered.result (λ e. omega (arith, h.1)) ∙ inv.2 i (omega (arith, h.1)),
-      λ i l. z_other R n i c.lowered.result (λ e. omega (arith, h.1)) ∙ inv.3 i (omega (arith, h.1)),
+      λ i l. left_other R n i c.lower.new.self (λ e. omega (arith, h.1)) ∙ inv.2 i (omega (arith, h.1)),
+      λ i l. z_other R n i c.lower.new.self (λ e. omega (arith, h.1)) ∙ inv.3 i (omega (arith, h.1)),
       λ F leaf nested l.
           let known = inv.4 F leaf nested l in
           let chain = known.0 in
           let p = nested.known n (omega (arith, chain.0)) in (
             chain_next F nested.ordered nested.nested leaf _ chain some _ p,
-            rw (left_set R n c.lowered.result) (change_steps F nested.ordered nested.nested leaf _ chain some _ _ (left_of_each R) (omega (arith, h.0, c.told-regions, length-map c.args.regions.now (λ (r : Lowering). r.left))) _ _ p left known.1),
-            rw (z_set R n c.lowered.result) (change_steps F nested.ordered nested.nested leaf _ chain some _ _ (z_of_each R) (omega (arith, h.0, c.told-regions, length-map c.args.regions.now (λ (r : Lowering). r.z))) _ _ p z known.2),
+            rw (left_set R n c.lower.new.self) (change_steps F nested.ordered nested.nested leaf _ chain some _ _ (left_of_each R) (omega (arith, h.0, c.told-regions, length-map c.args.regions.now (λ (r : Lowering). r.left))) _ _ p left known.1),
+            rw (z_set R n c.lower.new.self) (change_steps F nested.ordered nested.nested leaf _ chain some _ _ (z_of_each R) (omega (arith, h.0, c.told-regions, length-map c.args.regions.now (λ (r : Lowering). r.z))) _ _ p z known.2),
           ),
     )

@@ -3,10 +3,10 @@ use mathlib.Core.Path.{◌∙◌, ap}
 use Prim.Native.Nat.{ℕ, ◌-◌}
 use Rattle.bounds.specs.Curves.{largest_up_to}
 use Rattle.pvalues.specs.FromP.{gap, passes}
-use Rattle.pvalues.proofs.lowering.Lowering.lowered.Goals as goal
+use Rattle.pvalues.proofs.lowering.Lowering.lower.Goals as goal
 
 pub returns-clause-z : goal.returns-clause-z
 unfolding gap
 returns-clause-z c =
     let a = c.args in
-    c.largest_passing.ensures ∙ ap (λ (over : ℕ). largest_up_to a.self.z (passes a.deviation_squared (1000000 - a.p) over)) c.saturating_sub-over.ensures
+    c.largest_passing-self.ensures ∙ ap (λ (over : ℕ). largest_up_to a.self.now.z (passes a.deviation_squared (1000000 - a.p) over)) c.saturating_sub-self.ensures
