@@ -1,19 +1,16 @@
 -- The walk along a row: where the cursor stands, what is counted so far and what is stored, from the start of the row to its end.
 use Prim.Native.Nat.{ℕ, zero, suc, ◌+◌, ◌-◌, ◌≤◌, ◌<◌, min}
-use mathlib.Core.Bool.{Bool, true, false}
+use mathlib.Core.Bool.{false}
 use mathlib.Core.List.{List}
 use mathlib.Core.Logic.{inl, inr, ⊎_elim}
 use mathlib.Core.Path.{◌≡◌, refl, sym, ap, ap₂, ◌∙◌}
 use native.Mathlib.Nat.{eq-or-lt_of_le}
 use native.Mathlib.Numerals.{add-one}
 use native.Mathlib.Omega.{arith}
-use lib.Dec.{leb, ltb}
 use lib.ListN.{length, set}
 use lib.Seq.{get_or-set_same, get_or-set_other}
-use borrow.Author.Tests.{leb-true, leb-false, ltb-true, ltb-false}
 use Rattle.reader.specs.Family.{Family, leaves, region_count, region, peptides_up_to}
 use Rattle.reader.specs.WellFormed.{WellFormed}
-use Rattle.reader.proofs.Bools.{and_l, and_r, and_fails}
 use Rattle.bounds.specs.Ranges.{Range, card, count, ranges_of, range_at}
 use Rattle.bounds.specs.Bound.{total, value}
 use Rattle.bounds.specs.Selections.{selected, bound_of}
