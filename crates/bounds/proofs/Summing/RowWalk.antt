@@ -100,18 +100,7 @@ module _ {F : Family} {selection : List ℕ} (w : WellFormed F) where
       }
 
   module _ (b start : ℕ) (c : Cursor) (n : ℕ) (a : Along F selection b start c n) where
-    -- comes to a region,
-    pub region_meets : (totals : List ℕ) (p : Counted) → region_count F ≤ length totals → BeginsBy F c.region (last_leaf F b)
-        → PassedTo F selection c ((region F c.region).first - 1) p → RegionReady F totals p.at
-    region_meets totals p room e q =
-        record {
-          room = room;
-          here = omega (arith, q.region, e.some);
-          leaf = q.leaf ∙ ap (λ (k : ℕ). (region F k).first - 1) (sym q.region);
-          peptide = q.peptide ∙ ap (peptides_up_to F) (sym q.leaf);
-        }
-
-    -- and what is counted up to there is no more than the peptides,
+    -- counts no more than the peptides up to a leaf,
     pub pass_fits : (p : Counted) (l : ℕ) → l ≤ leaves F → PassedTo F selection c l p → n + p.count ≤ 4096
     pass_fits p l h passed =
         let S = selected selection in
