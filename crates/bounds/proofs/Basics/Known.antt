@@ -1,15 +1,15 @@
 -- What the structs `Line` and `Nesting` know of their family. Any two proofs of it are equal, so it can be taken out of the struct's
 -- field: of two regions the later one lies after the earlier one or inside it, and never both.
-use Prim.Native.Nat.{ℕ, ◌*◌, ◌-◌, ◌≤◌, ◌<◌}
+use Prim.Native.Nat.{ℕ}
 use native.Mathlib.Omega.{arith}
 use mathlib.Core.List.{List}
 use mathlib.Core.Logic.{◌⊎◌, inl, inr, ∥∥₁_elim}
-use mathlib.Core.Path.{◌≡◌, ap}
+use mathlib.Core.Path.{ap}
 use mathlib.Core.HLevel.{Π_prop}
 use native.Mathlib.Bridge.{le_prop}
 use Rattle.std.proofs.Props.{props}
-use Rattle.reader.specs.Family.{Family, leaves, region_count, region}
-use Rattle.reader.specs.WellFormed.{WellFormed, Ordered, NestedBelow, Nested}
+use Rattle.reader.specs.Family.{Family, region_count}
+use Rattle.reader.specs.WellFormed.{Ordered, NestedBelow, Nested}
 use Rattle.bounds.specs.Private.Rows.{Ready}
 
 apart : {A B : Type 0} → IsProp A → IsProp B → (A → B → ⊥) → IsProp (A ⊎ B)

@@ -1,19 +1,16 @@
 -- The walk along a row: where the cursor stands, what is counted so far and what is stored, from the start of the row to its end.
 use Prim.Native.Nat.{ℕ, zero, suc, ◌+◌, ◌-◌, ◌≤◌, ◌<◌, min}
-use mathlib.Core.Bool.{Bool, true, false}
+use mathlib.Core.Bool.{false}
 use mathlib.Core.List.{List}
 use mathlib.Core.Logic.{inl, inr, ⊎_elim}
 use mathlib.Core.Path.{◌≡◌, refl, sym, ap, ap₂, ◌∙◌}
 use native.Mathlib.Nat.{eq-or-lt_of_le}
 use native.Mathlib.Numerals.{add-one}
 use native.Mathlib.Omega.{arith}
-use lib.Dec.{leb, ltb}
 use lib.ListN.{length, set}
 use lib.Seq.{get_or-set_same, get_or-set_other}
-use borrow.Author.Tests.{leb-true, leb-false, ltb-true, ltb-false}
 use Rattle.reader.specs.Family.{Family, leaves, region_count, region, peptides_up_to}
 use Rattle.reader.specs.WellFormed.{WellFormed}
-use Rattle.reader.proofs.Bools.{and_l, and_r, and_fails}
 use Rattle.bounds.specs.Ranges.{Range, card, count, ranges_of, range_at}
 use Rattle.bounds.specs.Bound.{total, value}
 use Rattle.bounds.specs.Selections.{selected, bound_of}
@@ -103,18 +100,7 @@ module _ {F : Family} {selection : List ℕ} (w : WellFormed F) where
       }
 
   module _ (b start : ℕ) (c : Cursor) (n : ℕ) (a : Along F selection b start c n) where
-    -- comes to a region,
-    pub region_meets : (totals : List ℕ) (p : Counted) → region_count F ≤ length totals → BeginsBy F c.region (last_leaf F b)
-        → PassedTo F selection c ((region F c.region).first - 1) p → RegionReady F totals p.at
-    region_meets totals p room e q =
-        record {
-          room = room;
-          here = omega (arith, q.region, e.some);
-          leaf = q.leaf ∙ ap (λ (k : ℕ). (region F k).first - 1) (sym q.region);
-          peptide = q.peptide ∙ ap (peptides_up_to F) (sym q.leaf);
-        }
-
-    -- and what is counted up to there is no more than the peptides,
+    -- counts no more than the peptides up to a leaf,
     pub pass_fits : (p : Counted) (l : ℕ) → l ≤ leaves F → PassedTo F selection c l p → n + p.count ≤ 4096
     pass_fits p l h passed =
         let S = selected selection in

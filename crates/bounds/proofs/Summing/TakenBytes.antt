@@ -1,6 +1,6 @@
 -- The taken bytes as they are found in file order, and the lists that the calls write.
 use Prim.Native.Nat.{ℕ, zero, suc, ◌+◌, ◌-◌, ◌≤◌, ◌<◌}
-use mathlib.Core.Bool.{Bool, true, false, cond, and-false}
+use mathlib.Core.Bool.{Bool, true, false, cond}
 use mathlib.Core.List.{List, ◌++◌}
 use mathlib.Core.Logic.{◌⊎◌, inl, inr, ⊎_elim}
 use mathlib.Core.Path.{◌≡◌, refl, sym, ap, ◌∙◌}
@@ -10,7 +10,7 @@ use native.Mathlib.Omega.{arith}
 use lib.Dec.{ltb}
 use lib.ListN.{length, get_or, set, take, drop, length-map, length-drop, take-append-drop}
 use lib.Seq.{ext_get_or, get_or-take, get_or-drop, length-take-le, take_all}
-use borrow.Author.Tests.{ltb-true, lt-ltb, le-ltb}
+use borrow.Author.Tests.{ltb-true, lt-ltb}
 use Rattle.reader.specs.Lists.{tabulate}
 use Rattle.reader.specs.Family.{Family, region_count, region}
 use Rattle.reader.specs.WellFormed.{WellFormed}
@@ -160,21 +160,6 @@ unfolding taken_along taken_of taken_bytes
 taken_along_lem {F} w selection T right =
     let f : Range → ℕ = λ r. cond (is_taken F.peptides (ranges_of F) (selected selection) r) 1 0 in
     tabulate_same (region_count F) (taken_at F T) (λ k. f (range_at F k)) (taken_at_lem w (selected selection) T right) ∙ sym (over_regions F f)
-
--- The cases of the test.
-
-module _ (F : Family) (k total until : ℕ) where
-  pub not_begun : (region F k).first ≤ until → takes F k total until ≡ false
-  unfolding takes
-  not_begun h = rw (le-ltb until (region F k).first h)
-
-  pub not_over : total ≤ (region F k).z → takes F k total until ≡ false
-  unfolding takes
-  not_over h = rw (le-ltb (region F k).z total h) (and-false (ltb until (region F k).first))
-
-  pub both_take : until < (region F k).first → (region F k).z < total → takes F k total until ≡ true
-  unfolding takes
-  both_take a b = and_both (ltb until (region F k).first) (ltb (region F k).z total) (lt-ltb until (region F k).first a) (lt-ltb (region F k).z total b)
 
 -- One byte more.
 

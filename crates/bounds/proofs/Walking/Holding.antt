@@ -12,11 +12,11 @@ use Rattle.std.proofs.lemmas.List.{get_or-append_right, get_or-replicate}
 use lib.Dec.{leb, eqb}
 use borrow.Rule.Slice.PartMut.{put_mid}
 use borrow.Author.Tests.{leb-true, le-leb, lt-leb, eqb-true, eq-eqb}
-use Rattle.reader.specs.Family.{Family, region_count, region, leaf_of}
+use Rattle.reader.specs.Family.{Family, region_count, region}
 use Rattle.reader.specs.WellFormed.{Ordered, NestedBelow, IsParent}
 use Rattle.reader.proofs.Below.{some_at, none_at, none_below}
 use Rattle.bounds.specs.Holding.{is_between, holds_leaf, LastAmong, LastHolding, PaintedBefore}
-use Rattle.bounds.specs.Private.Walks.{crowded, OneLess, MarkedNext}
+use Rattle.bounds.specs.Private.Walks.{crowded}
 use Rattle.bounds.proofs.Basics.Members.{test, clash, refuted, and_l, and_r, and_both, le_or_lt}
 
 -- Numbers up to and from a number.
@@ -148,9 +148,6 @@ RoomFrom F S leaf c = (i : ℕ) → c ≤ i → i < region_count F → crowded_a
 not_crowded : (F : Family) (S : List ℕ) (leaf k : ℕ) → holds_leaf F leaf k ≡ false → crowded_at F S leaf k ≡ false
 not_crowded F S leaf k h = rw h
 
-pub room_starts : (F : Family) (S : List ℕ) (leaf c : ℕ) → LastHolding F leaf c → RoomFrom F S leaf c
-room_starts F S leaf c h i l u = not_crowded F S leaf i (h.last i l u)
-
 pub chain_starts : (F : Family) (leaf c : ℕ) → LastHolding F leaf c → Chain F leaf c
 chain_starts F leaf c h = (h.most, h.holds)
 
@@ -220,21 +217,3 @@ module _ (F : Family) (o : Ordered F) (nested : NestedBelow F (region_count F)) 
 -- one mark less in each of them
 abbrev pub one_less : List ℕ → ℕ → ℕ
 one_less S i = get_or S i 0 - 1
-
-pub less_ends : (F : Family) (S : List ℕ) (leaf : ℕ) (D : List ℕ) (c : ℕ) → ChangedFrom F (one_less S) S leaf D c → c ≡ 0 → OneLess F S leaf D
-less_ends F S leaf D c h e =
-    record { same = h.same; less = λ i l. h.changed i (omega arith) l ∙ ⊎_elim (λ t. rw t) (λ f. rw f (omega arith)) (test (holds_leaf F leaf i)) }
-
--- A whole step.
-
-module _ (F : Family) (S : List ℕ) (p : ℕ) where
-  pub step_stays : crowded F S (leaf_of F p) ≡ true → MarkedNext F S p S 0
-  step_stays h =
-      record {
-        same = refl;
-        marked = rw h;
-        less = λ k l. ⊎_elim (λ t. rw t (omega arith)) (λ f. rw f (omega arith)) (test (holds_leaf F (leaf_of F p) k));
-      }
-
-  pub step_takes : (D : List ℕ) → crowded F S (leaf_of F p) ≡ false → OneLess F S (leaf_of F p) D → MarkedNext F S p D 1
-  step_takes D h one = record { same = one.same; marked = rw h; less = one.less }

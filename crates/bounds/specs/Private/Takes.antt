@@ -1,5 +1,5 @@
 -- The taken bytes as the code goes along: from the inside totals of all regions, in file order.
-use Rattle.std.specs.Prelude.{ℕ, zero, suc, Bool, cond, ◌&&◌, List, ◌≡◌, get_or, ltb}
+use Rattle.std.specs.Prelude.{ℕ, zero, suc, Bool, cond, ◌&&◌, List, get_or, ltb}
 use Rattle.reader.specs.Lists.{tabulate}
 use Rattle.reader.specs.Family.{Region, Family, region_count, region}
 

@@ -1,6 +1,5 @@
 use Prim.Native.Nat.{◌+◌}
 use native.Mathlib.Omega.{arith}
-use mathlib.Core.Path.{◌≡◌}
 use Rattle.reader.specs.Family.{family_of}
 use Rattle.reader.proofs.Walk.{up_to_mono, up_to_leaf}
 use Rattle.bounds.proofs.cursor.last_peptide.Goals as goal
@@ -16,8 +15,3 @@ loop-j-preserved c =
     let F = family_of c.args.file.now in
     let j = c.loop-j.j in
     omega (arith, up_to_leaf F j)
-
-pub returns : goal.returns
-returns c =
-    let e : c.loop-j.j ≡ c.args.last.0 = omega (arith, c.requires.forward) in
-    rw (← e) c.loop-j.invariant

@@ -1,14 +1,12 @@
 use native.Mathlib.Omega.{arith}
-use Prim.Native.Nat.{ℕ, ◌+◌, ◌-◌, ◌<◌, ◌≤◌}
+use Prim.Native.Nat.{ℕ, ◌+◌, ◌<◌, ◌≤◌}
 use mathlib.Core.Bool.{cond}
-use mathlib.Core.List.{List}
 use mathlib.Core.Path.{ap₂, ◌∙◌}
-use lib.ListN.{length, get_or, replicate}
-use Rattle.reader.specs.Family.{family_of, region_count, region, leaves}
+use lib.ListN.{get_or}
+use Rattle.reader.specs.Family.{family_of, region_count}
 use Rattle.reader.proofs.Parsed.{held_first, held_last}
 use Rattle.bounds.specs.Holding.{is_between}
 use Rattle.bounds.proofs.Walking.Holding.{one_among, filled, painted_at}
-use borrow.Rule.Slice.PartMut.{put_mid}
 use Rattle.bounds.proofs.walk.fill_innermost.Goals as goal
 use Rattle.bounds.proofs.walk.fill_innermost.Goals.{After-region_of}
 

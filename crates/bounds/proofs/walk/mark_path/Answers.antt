@@ -1,8 +1,8 @@
 use Prim.Native.Nat.{ℕ, ◌+◌}
 use native.Mathlib.Omega.{arith}
 use mathlib.Core.List.{List}
-use mathlib.Core.Path.{◌≡◌, refl, sym, ap, ◌∙◌}
-use lib.ListN.{length, set, length-set}
+use mathlib.Core.Path.{◌≡◌, ap, ◌∙◌}
+use lib.ListN.{length, set}
 use Rattle.reader.specs.Family.{family_of}
 use Rattle.reader.proofs.Lists.{write_none, write_more, zeros}
 use Rattle.bounds.specs.Curves.{mark_at, curve_marks}

@@ -1,11 +1,8 @@
-use Prim.Native.Nat.{ℕ}
 use native.Mathlib.Omega.{arith}
-use mathlib.Core.Path.{◌≡◌, refl, sym, ap, ◌∙◌}
-use Rattle.reader.specs.Family.{family_of, region}
+use mathlib.Core.Path.{refl}
 use Rattle.reader.proofs.Parsed.{held_last, held_z}
-use Rattle.bounds.specs.Private.Rows.{BeginsBy, BeginsAfter, last_leaf}
 use Rattle.bounds.proofs.Basics.Known.{is_ready}
-use Rattle.bounds.proofs.Summing.RowWalk.{leaf_before_lem, pass_fits, step_fits, stored_none, stored_more, row_starts, region_meets, row_steps, row_finishes, region_row, region_finishes}
+use Rattle.bounds.proofs.Summing.RowWalk.{leaf_before_lem, pass_fits, step_fits, stored_none, stored_more, row_starts, row_steps, row_finishes, region_row, region_finishes}
 use Rattle.bounds.proofs.cursor.Line.+region_value_row_value.Goals as goal
 
 pub region_value-overflow_add-inside : goal.region_value-overflow_add-inside
@@ -25,27 +22,6 @@ region_value-returns t c =
 pub row_value-loop-next-init : goal.row_value-loop-next-init
 row_value-loop-next-init t c =
     record { along = row_starts (is_ready c.args.self.now.ready).formed _ _ _ c.requires; stored = stored_none _ _ }
-
-pub row_value-pass_to_region-before-requires-clause-some_region :
-    goal.row_value-pass_to_region-before-requires-clause-some_region
-row_value-pass_to_region-before-requires-clause-some_region t c = c.in-Some.ensures.0.some
-
-pub row_value-pass_to_region-before-requires-clause-ahead :
-    goal.row_value-pass_to_region-before-requires-clause-ahead
-row_value-pass_to_region-before-requires-clause-ahead t c = c.loop-next.invariant.along.ahead c.in-Some.ensures.0.some
-
-pub row_value-region_value-inner-requires : goal.row_value-region_value-inner-requires
-row_value-region_value-inner-requires t c =
-    let pre = c.requires in
-    let inv = c.loop-next.invariant in
-    let e = rw pre.ends at c.in-Some.ensures.0 in
-    let passed = c.pass_to_region-before.ensures in (
-      omega (arith, c.decreases, e.some, inv.along.forward, passed.region),
-      (
-        region_meets (is_ready c.args.self.now.ready).formed _ _ _ _ inv.along _ _ (omega (arith, pre.room, c.loop-next.auto.totals)) e passed,
-        c.in-Some.ensures.1 ∙ ap (λ (k : ℕ). region (family_of c.args.self.now.file.now) k) (sym passed.region),
-      ),
-    )
 
 pub row_value-overflow_add-total : goal.row_value-overflow_add-total
 row_value-overflow_add-total t c =

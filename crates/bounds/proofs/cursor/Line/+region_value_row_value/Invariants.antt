@@ -1,8 +1,6 @@
 -- The cycle of calls {region_value, row_value}. A region's call asks for the row after it, and a row's for regions at or after
 -- its own: with n regions left, a region's measure is 2n and a row's 2n + 1.
 use Prim.Native.Nat.{◌+◌, ◌-◌, ◌*◌}
-use mathlib.Core.Path.{◌≡◌}
-use lib.ListN.{length}
 use Rattle.reader.specs.Family.{family_of, region_count}
 use Rattle.bounds.specs.Private.Rows.{Stored}
 use Rattle.bounds.proofs.Summing.RowWalk.{Along}

@@ -1,7 +1,7 @@
-use Prim.Native.Nat.{ℕ, ◌-◌, ◌≤◌, ◌<◌}
+use Prim.Native.Nat.{ℕ, ◌-◌, ◌≤◌}
 use native.Mathlib.Omega.{arith}
-use mathlib.Core.Path.{◌≡◌, ap, sym, ◌∙◌}
-use lib.ListN.{length, get_or}
+use mathlib.Core.Path.{ap}
+use lib.ListN.{get_or}
 use Rattle.reader.specs.Family.{family_of}
 use Rattle.reader.specs.WellFormed.{IsParent}
 use Rattle.bounds.proofs.Basics.Known.{is_nested}
