@@ -18,7 +18,7 @@ struct Weights {
     around: u16,
 }
 
-// The weights of each region.
+// The weights of each region. Two arrays and not one of pairs, as their places serve other numbers too.
 #[derive(Clone, Copy)]
 struct WeightsOf<'a> {
     least: &'a [u16],
@@ -26,7 +26,7 @@ struct WeightsOf<'a> {
 }
 
 // The list of the reduced ranges, while it is written: the first peptide, the last one and the bound of each of the first
-// `count`.
+// `count`. Three arrays and not one of ranges, as their places serve other numbers too.
 #[derive(Drop)]
 struct Ranges<'a> {
     from: &'a mut [u16],
@@ -39,10 +39,7 @@ struct Ranges<'a> {
 fn nth(numbers: &[u16], k: u16) -> u16
     ensures { result ≡ get_or numbers.now k 0 }
 {
-    match numbers.get(k as usize) {
-        Some(number) => *number,
-        None => 0,
-    }
+    numbers.get(k as usize).copied().unwrap_or(0)
 }
 
 // The stretch of a region; none past the end.
@@ -50,10 +47,10 @@ fn stretch_at(stretches: &[Stretch], k: u16) -> Stretch
     ensures first { result.first ≡ get_or (firsts_of stretches.now) k 0 }
     ensures last { result.last ≡ get_or (lasts_of stretches.now) k 0 }
 {
-    match stretches.get(k as usize) {
-        Some(stretch) => *stretch,
-        None => Stretch { first: 0, last: 0 },
-    }
+    stretches
+        .get(k as usize)
+        .copied()
+        .unwrap_or(Stretch { first: 0, last: 0 })
 }
 
 // Whether two regions have the same stretch.
@@ -165,8 +162,8 @@ fn weigh(
     }
 }
 
-// The z of the k-th region's stretch if it is kept and no later region has it, else 0. `next` is the next region with a
-// stretch. Of regions with the same stretch only the last, innermost one knows the room.
+// The z of the k-th region's stretch if it is kept and no later region has it, else 0, which an array of numbers has room for.
+// `next` is the next region with a stretch. Of regions with the same stretch only the last, innermost one knows the room.
 #[tactic(auto, unfolding(crate::specs::Private::Keeping::kept_bound))]
 fn kept_bound(
     totals: &[u16],
@@ -195,12 +192,11 @@ fn mark_kept(
     totals: &[u16],
     stretches: &[Stretch],
     weights: WeightsOf,
-    kept: &mut [u16],
+    kept: &mut [u16; 8191],
 )
     requires with_stretches { WithStretches (family_of file.now) (firsts_of stretches.now) (lasts_of stretches.now) }
     requires totals_below { TotalsBelow (family_of file.now) totals.now }
     requires weighed_below { WeighedBelow (family_of file.now) weights.least.now weights.around.now (region_count (family_of file.now)) }
-    requires kept_room { region_count (family_of file.now) ≤ length kept.old }
     ensures { KeptMarked (family_of file.now) kept.new 0 }
 {
     let mut next = None;
@@ -294,7 +290,7 @@ fn gather(file: &[u8], live: &[u8], stretches: &[Stretch], kept: &[u16], ranges:
 // `to` hold the weights until the kept bounds are marked, and these are marked over the parents, which only the weights need.
 pub(crate) fn list_reduced(
     file: &[u8],
-    parents: &mut [u16],
+    parents: &mut [u16; 8191],
     live: &[u8],
     stretches: &[Stretch],
     from: &mut [u16; 8191],

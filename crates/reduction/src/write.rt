@@ -1,6 +1,6 @@
 // The file of the reduced ranges, written at the start of the output: where ranges begin and end, and from this the header, the
 // leaf lengths and the regions.
-ghost use Rattle.std.specs.Prelude.{◌≡◌, ◌++◌, ℕ, ◌+◌, ◌*◌, ◌≤◌, length, get_or};
+ghost use Rattle.std.specs.Prelude.{◌≡◌, ◌++◌, ℕ, ◌+◌, ◌*◌, ◌≤◌, length, get_or, false};
 ghost use Rattle.std.proofs.lemmas.List.Edits.{sets};
 ghost use Rattle.reader.specs.Bytes.{bytes_of, with_numbers};
 ghost use Rattle.reader.specs.Causes.{Accepted};
@@ -13,7 +13,8 @@ use crate::Size;
 use reader::bytes::{put_number, put_numbers};
 use reader::family::peptide_count;
 
-// The reduced ranges in file order: the first peptide, the last one and the bound of each.
+// The reduced ranges in file order: the first peptide, the last one and the bound of each. Three arrays and not one of ranges, as
+// their places serve other numbers too.
 #[derive(Clone, Copy)]
 struct Ranges<'a> {
     from: &'a [u16],
@@ -22,7 +23,8 @@ struct Ranges<'a> {
 }
 
 // Writes the mark and the six numbers of the header of a file with its leaf lengths from that byte on; the answer is the last of
-// them, the length of the file.
+// them, the length of the file. Its twin is in levels: one function for both would be public, and none of these may ask that the
+// sums fit.
 fn write_header(
     out: &mut [u8],
     mark: &[u8; 4],
@@ -48,42 +50,42 @@ fn write_header(
 
 // Marks the peptides after which a range begins or at which one ends, and m: there the leaves of the file to be written end. Place
 // 0 is marked too where a range begins at peptide 1; nobody asks there.
-fn mark_borders(m: u16, ranges: Ranges, borders: &mut [u8; 4097])
+fn mark_borders(m: u16, ranges: Ranges, borders: &mut [bool; 4097])
     requires on_line { OnLine m (length ranges.from.now) ranges.from.now ranges.to.now }
-    requires unmarked { (p : ℕ) → get_or borders.old p 0 ≡ 0 }
+    requires unmarked { (p : ℕ) → get_or borders.old p false ≡ false }
     ensures { Marks borders.new (ends_at m (length ranges.entry.from.now) ranges.entry.from.now ranges.entry.to.now) }
 {
-    borders[m as usize] = 1;
+    borders[m as usize] = true;
     for (k, first) in ranges.from.iter().enumerate() {
-        borders[(*first - 1) as usize] = 1;
-        borders[ranges.to[k] as usize] = 1;
+        borders[(*first - 1) as usize] = true;
+        borders[ranges.to[k] as usize] = true;
     }
 }
 
 // How many leaves of the file to be written end after the first peptide named, and up to the second: a walk along the line.
-fn borders_between(borders: &[u8; 4097], after: u16, upto: u16) -> u16
+fn borders_between(borders: &[bool; 4097], after: u16, upto: u16) -> u16
     requires after_le_upto { after ≤ upto }
     requires on_line { upto ≤ 4096 }
-    requires marks { Marks borders.now (marked_in borders.now) }
     ensures { result + card after (marked_in borders.now) ≡ card upto (marked_in borders.now) }
 {
     let mut count = 0;
     for p in after..upto {
-        count += borders[p as usize + 1] as u16;
+        if borders[p as usize + 1] {
+            count += 1;
+        }
     }
     count
 }
 
 // Writes the length of each leaf, from one leaf end to the next.
-fn write_lengths(m: u16, borders: &[u8; 4097], out: &mut [u8])
-    requires on_line { m ≤ 4096 }
-    requires room { 16 + 2 * card m (marked_in borders.now) ≤ length out.old }
+fn write_lengths(m: u16, borders: &[bool; 4097], out: &mut [u8])
+    requires { m ≤ 4096 }
     ensures { out.new ≡ with_numbers out.old 16 (leaf_lengths m (marked_in borders.now)) }
 {
     let mut at = 16;
     let mut last = 0;
     for p in 1..m + 1 {
-        if borders[p as usize] == 1 {
+        if borders[p as usize] {
             put_number(out, at, p - last);
             at += 2;
             last = p;
@@ -93,10 +95,9 @@ fn write_lengths(m: u16, borders: &[u8; 4097], out: &mut [u8])
 
 // Writes the regions: a range begins with the leaf after those that end before it, and ends with the leaf that ends where
 // it does. The first peptides rise, so the leaves before a range are counted on from those before the range before it.
-fn write_regions(ranges: Ranges, borders: &[u8; 4097], at: usize, out: &mut [u8])
+fn write_regions(ranges: Ranges, borders: &[bool; 4097], at: usize, out: &mut [u8])
     requires on_line { OnLine 4096 (length ranges.from.now) ranges.from.now ranges.to.now }
     requires bounds { length ranges.from.now ≤ length ranges.bounds.now }
-    requires marks { Marks borders.now (marked_in borders.now) }
     requires room { at + 6 * length ranges.from.now ≤ length out.old }
     ensures { out.new ≡ with_numbers out.old at (region_numbers (length ranges.entry.from.now) (marked_in borders.now) ranges.entry.from.now ranges.entry.to.now ranges.entry.bounds.now) }
 {
@@ -113,7 +114,7 @@ fn write_regions(ranges: Ranges, borders: &[u8; 4097], at: usize, out: &mut [u8]
     }
 }
 
-// Writes the file of the reduced ranges at the start of the output. `borders` has a byte for each peptide, 1 where a range begins
+// Writes the file of the reduced ranges at the start of the output. `borders` says of each peptide whether a range begins
 // after it or ends with it. The leaf lengths of that file, which do not exist yet, are made from it; no leaf of a family that is read
 // is looked up in it.
 pub(crate) fn write_reduced(
@@ -136,7 +137,7 @@ pub(crate) fn write_reduced(
         bounds: &bounds[..count],
     };
     let m = peptide_count(file);
-    let mut borders = [0u8; 4097];
+    let mut borders = [false; 4097];
     mark_borders(m, ranges, &mut borders);
     let leaves = borders_between(&borders, 0, m);
     let total = write_header(out, b"PHFB", m, leaves, n, 16);

@@ -48,14 +48,6 @@ module _ {F : Family} {A B : List ℕ} (K : WithStretches F A B) (Z W : List ℕ
   pub weigh_other : same_ends A B (c - 1) k ≡ false → Weighed F k (region F k).z (min (get_or Z (c - 1) 0) (get_or W (c - 1) 0))
   weigh_other e = weighed_other K.well_formed k h (c - 1) parent_place s _ _ parent_weights (other_read K (c - 1) k (omega (arith, p.earlier)) h e)
 
-pub same_differs : (A B : List ℕ) (i k : ℕ) → (get_or A i 0 ≡ get_or A k 0 → ⊥) → false ≡ same_ends A B i k
-unfolding same_ends
-same_differs A B i k h = rw (ne_eqb (get_or A i 0) (get_or A k 0) h)
-
-pub same_firsts : (A B : List ℕ) (i k : ℕ) → get_or A i 0 ≡ get_or A k 0 → eqb (get_or B i 0) (get_or B k 0) ≡ same_ends A B i k
-unfolding same_ends
-same_firsts A B i k h = rw (eq-eqb (get_or A i 0) (get_or A k 0) h)
-
 -- The cases of the bound.
 module _ (A B T Z W : List ℕ) (c k : ℕ) where
   either : (b : Bool) → ◌≡◌ {A = ℕ} 0 (cond b 0 0)
@@ -73,12 +65,6 @@ module _ (A B T Z W : List ℕ) (c k : ℕ) where
   dropped : (ltb (get_or Z k 0) (get_or T k 0) && ltb (get_or Z k 0) (get_or W k 0)) ≡ false → 0 ≡ kept_bound A B T Z W c k
   unfolding kept_bound
   dropped e = rw e (either (eqb (get_or A k 0) 0 || (not (eqb c 0) && same_ends A B (c - 1) k)))
-
-  pub bound_full : get_or T k 0 ≤ get_or Z k 0 → 0 ≡ kept_bound A B T Z W c k
-  bound_full h = dropped (refuted _ (λ e. omega (arith, ltb-true (get_or Z k 0) (get_or T k 0) (and_l _ _ e))))
-
-  pub bound_implied : get_or W k 0 ≤ get_or Z k 0 → 0 ≡ kept_bound A B T Z W c k
-  bound_implied h = dropped (refuted _ (λ e. omega (arith, ltb-true (get_or Z k 0) (get_or W k 0) (and_r (ltb (get_or Z k 0) (get_or T k 0)) _ e))))
 
   pub bound_kept : (get_or A k 0 ≡ 0 → ⊥) → (not (eqb c 0) && same_ends A B (c - 1) k) ≡ false → get_or Z k 0 < get_or T k 0 → get_or Z k 0 < get_or W k 0
       → get_or Z k 0 ≡ kept_bound A B T Z W c k

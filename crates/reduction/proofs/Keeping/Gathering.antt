@@ -21,7 +21,7 @@ use Rattle.bounds.proofs.Theory.Family.{ranges_length}
 use Rattle.reduction.specs.declared.keep.Ranges.{Ranges}
 use Rattle.reduction.specs.Reduction.{piece, live}
 use Rattle.reduction.specs.Private.Steps.{Begins, live_bytes, reduced_ranges, Listed}
-use Rattle.reduction.specs.Private.Keeping.{first_at, last_at, SameStretch, Keeps, KeptMarked, begins_run, RunTo, of_first, with_runs, Gathered, Passed, SameArrays}
+use Rattle.reduction.specs.Private.Keeping.{first_at, last_at, SameStretch, Keeps, KeptMarked, begins_run, RunTo, of_first, with_runs, Gathered, GatheredIn, Passed, WithStretches, Whole, SameArrays}
 use Rattle.reduction.proofs.Basics.Unless.{lt_unless}
 use Rattle.reduction.proofs.Basics.Grid.{Precedes, FileOrder, append_l, append_r, those_ordered, ordered_same}
 use Rattle.reduction.proofs.Theory.Stretches.{stretches_facts}
@@ -180,7 +180,7 @@ module _ (F : Family) where
     still : (x : Range) → In x (reduced_ranges F) → live (ranges_of F) x.from ≡ true → t x ≡ true → x.from < p + 1
     still x i l e = omega (arith, g.earlier x i l e)
 
-    pub no_run : ((e : ℕ) → DeadRun F.peptides (live (ranges_of F)) p e → ⊥) → Gathered F t (p + 1) n A B Z
+    no_run : ((e : ℕ) → DeadRun F.peptides (live (ranges_of F)) p e → ⊥) → Gathered F t (p + 1) n A B Z
     no_run none = gathered_same t t p (p + 1) n A B Z (λ x i. ⊎_elim (λ l. of_stretch t p x l ∙ sym (of_stretch t (p + 1) x l)) (dead x i) (test (live (ranges_of F) x.from))) still g
       where
         dead : (x : Range) → In x (reduced_ranges F) → live (ranges_of F) x.from ≡ false → with_runs F t p x ≡ with_runs F t (p + 1) x
@@ -222,10 +222,10 @@ module _ (F : Family) where
                   ⊎_elim (λ q. inr (same l q)) (λ k. inl (of_run t p y l ∙ lt-ltb y.from p k))
                   (eq-or-lt_of_le (omega (arith, ltb-true y.from (p + 1) (sym (of_run t (p + 1) y l) ∙ d))))
 
-      pub run_room : n < region_count F
+      run_room : n < region_count F
       run_room = room_more t t p (p + 1) n A B Z (piece p e 0) run_listed g
 
-      pub run_more : region_count F ≤ length A → region_count F ≤ length B → region_count F ≤ length Z
+      run_more : region_count F ≤ length A → region_count F ≤ length B → region_count F ≤ length Z
           → Gathered F t (p + 1) (n + 1) (set A n p) (set B n e) (set Z n 0)
       run_more a b z = gathered_more t t p (p + 1) n A B Z (piece p e 0) run_listed g a b z still
 
@@ -246,14 +246,26 @@ begins_run_lem X p e b r =
 
 -- as the live bytes say it
 module _ (F : Family) (X : List ℕ) (b : Begins (live_bytes F) X) (p : ℕ) where
-  run_here : (e : ℕ) → 1 ≤ p → begins_run (selected X) p ≡ true → RunTo F.peptides (selected X) p e → DeadRun F.peptides (live (ranges_of F)) p e
-  run_here e h t r = run_same (selected X) (live (ranges_of F)) (lives_same F X b) (run_begins (selected X) p e h t r)
-
-  pub run_at : (m e : ℕ) → m ≡ F.peptides → 1 ≤ p → begins_run (selected X) p ≡ true → RunTo m (selected X) p e → DeadRun F.peptides (live (ranges_of F)) p e
-  run_at m e i h t r = run_here e h t (subst (λ (n : ℕ). RunTo n (selected X) p e) i r)
-
-  pub no_run_here : begins_run (selected X) p ≡ false → (e : ℕ) → DeadRun F.peptides (live (ranges_of F)) p e → ⊥
+  no_run_here : begins_run (selected X) p ≡ false → (e : ℕ) → DeadRun F.peptides (live (ranges_of F)) p e → ⊥
   no_run_here t e r = begins_run_lem (selected X) p e t (run_same (live (ranges_of F)) (selected X) (λ q l u. sym (lives_same F X b q l u)) r)
+
+  -- none begins here
+  pub not_found : (t : Range → Bool) (r : Ranges) → begins_run (selected X) p ≡ false → GatheredIn F t p r → GatheredIn F t (p + 1) r
+  not_found t r e g = no_run F t p r.count r.from.now r.to.now r.bounds.now g (no_run_here e)
+
+  -- the one that begins here is found to end at e
+  module _ (m e : ℕ) (i : m ≡ F.peptides) (h : 1 ≤ p) (begins : begins_run (selected X) p ≡ true) (d : RunTo m (selected X) p e) (t : Range → Bool) (r : Ranges) (g : GatheredIn F t p r) where
+    its_run : DeadRun F.peptides (live (ranges_of F)) p e
+    its_run =
+        run_same (selected X) (live (ranges_of F)) (lives_same F X b)
+        (run_begins (selected X) p e h begins (subst (λ (n : ℕ). RunTo n (selected X) p e) i d))
+
+    pub found_room : r.count < region_count F
+    found_room = run_room F t p r.count r.from.now r.to.now r.bounds.now g e its_run
+
+    pub found_more : region_count F ≤ 8191 → Whole r → Gathered F t (p + 1) (r.count + 1) (set r.from.now r.count p) (set r.to.now r.count e) (set r.bounds.now r.count 0)
+    found_more few w =
+        run_more F t p r.count r.from.now r.to.now r.bounds.now g e its_run (omega (arith, w.from)) (omega (arith, w.to)) (omega (arith, w.bounds))
 
 -- One region more.
 
@@ -403,10 +415,10 @@ module _ {F : Family} (w : WellFormed F) (C : List ℕ) (M : KeptMarked F C 0) w
             (λ l. inl (of_run F (of_first F C k) q y l ∙ (sym (of_run F (of_first F C (k + 1)) q y l) ∙ d)))
             (test (live (ranges_of F) y.from))
 
-    pub stretch_room : n < region_count F
+    stretch_room : n < region_count F
     stretch_room = room_more F (of_first F C k) (of_first F C (k + 1)) q q n A B Z it stretch_listed g
 
-    pub stretch_more : region_count F ≤ length A → region_count F ≤ length B → region_count F ≤ length Z
+    stretch_more : region_count F ≤ length A → region_count F ≤ length B → region_count F ≤ length Z
         → Gathered F (of_first F C (k + 1)) (first_at F k + 1) (n + 1) (set A n (first_at F k)) (set B n (last_at F k)) (set Z n (get_or C k 0))
     stretch_more a b z =
         gathered_more F (of_first F C k) (of_first F C (k + 1)) q q n A B Z it stretch_listed g a b z
@@ -429,22 +441,6 @@ module _ {F : Family} (w : WellFormed F) (C : List ℕ) (M : KeptMarked F C 0) w
         after = λ i l u d. ⊎_elim (λ q. omega arith) (λ q. omega (arith, q.0)) (later_stretch k i (omega arith) u c d);
       }
 
-  pub passed_place : (k x : ℕ) → k < region_count F → 1 ≤ get_or C k 0 → x ≡ first_at F k → Passed F C (k + 1) (x + 1)
-  passed_place k x h c a = rw a (passed_stretch k h c)
-
-  -- the same, with what the lists hold at the region
-  module _ (k n : ℕ) (A B Z : List ℕ) (h : k < region_count F) (c : 1 ≤ get_or C k 0) (x y z : ℕ) (a : x ≡ first_at F k) (b : y ≡ last_at F k) (d : z ≡ get_or C k 0)
-      (g : Gathered F (of_first F C k) (x + 1) n A B Z) where
-    there : Gathered F (of_first F C k) (first_at F k + 1) n A B Z
-    there = subst (λ (i : ℕ). Gathered F (of_first F C k) (i + 1) n A B Z) a g
-
-    pub place_room : n < region_count F
-    place_room = stretch_room k n A B Z h c there
-
-    pub place_more : region_count F ≤ length A → region_count F ≤ length B → region_count F ≤ length Z
-        → Gathered F (of_first F C (k + 1)) (x + 1) (n + 1) (set A n x) (set B n y) (set Z n z)
-    place_more e f q = rw (a, b, d) (stretch_more k n A B Z h c there e f q)
-
   -- All are listed.
   pub gathers_all : (s n : ℕ) (A B Z : List ℕ) → s ≡ F.peptides + 1 → Gathered F (of_first F C (region_count F)) s n A B Z
       → those (with_runs F (of_first F C (region_count F)) s) (reduced_ranges F) ≡ reduced_ranges F
@@ -462,6 +458,35 @@ module _ {F : Family} (w : WellFormed F) (C : List ℕ) (M : KeptMarked F C 0) w
           (λ l. of_stretch F (of_first F C (region_count F)) s x l ∙ stretch x i l)
           (λ l. of_run F (of_first F C (region_count F)) s x l ∙ lt-ltb x.from s (omega (arith, ends F x i)))
           (test (live (ranges_of F) x.from))
+
+-- The k-th region as it is read: z is the bound of its stretch, which goes from x to y.
+module _ {F : Family} {A B : List ℕ} (K : WithStretches F A B) (C : List ℕ) (M : KeptMarked F C 0) (k z x y : ℕ) (h : k < region_count F)
+    (d : z ≡ get_or C k 0) (some : z ≡ 0 → ⊥) (a : x ≡ get_or A k 0) (b : y ≡ get_or B k 0) where
+  is_kept : 1 ≤ get_or C k 0
+  is_kept = omega (arith, d, some)
+
+  is_first : x ≡ first_at F k
+  is_first = a ∙ K.firsts k h
+
+  pub stretch_passed : Passed F C (k + 1) (x + 1)
+  stretch_passed = rw is_first (passed_stretch K.well_formed C M k h is_kept)
+
+  pub stretch_ahead : (q : ℕ) → Passed F C k q → q ≤ x + 1
+  stretch_ahead q p = omega (arith, p.after k (omega arith) h is_kept, is_first)
+
+  -- the ranges up to its first peptide are listed
+  module _ (r : Ranges) (g : GatheredIn F (of_first F C k) (x + 1) r) where
+    there : GatheredIn F (of_first F C k) (first_at F k + 1) r
+    there = subst (λ (i : ℕ). GatheredIn F (of_first F C k) (i + 1) r) is_first g
+
+    pub stretch_has_room : r.count < region_count F
+    stretch_has_room = stretch_room K.well_formed C M k r.count r.from.now r.to.now r.bounds.now h is_kept there
+
+    pub stretch_pushed : region_count F ≤ 8191 → Whole r
+        → Gathered F (of_first F C (k + 1)) (x + 1) (r.count + 1) (set r.from.now r.count x) (set r.to.now r.count y) (set r.bounds.now r.count z)
+    stretch_pushed few w =
+        rw (is_first, b ∙ K.lasts k h, d)
+        (stretch_more K.well_formed C M k r.count r.from.now r.to.now r.bounds.now h is_kept there (omega (arith, w.from)) (omega (arith, w.to)) (omega (arith, w.bounds)))
 
 pub listed_all : (s : List ℕ) (w : WellFormed (family_of s)) (C : List ℕ) → KeptMarked (family_of s) C 0 → (k q n : ℕ) (A B Z : List ℕ) → k ≡ region_count (family_of s)
     → q ≡ (family_of s).peptides + 1 → Gathered (family_of s) (of_first (family_of s) C k) q n A B Z → Listed s n A B Z

@@ -45,24 +45,9 @@ lives_same F X b p l u =
     ∙ set_selected F.peptides L p l u
 
 -- where a run begins
-module _ (X : Peptides) (p : ℕ) where
-  pub begins_not : X p ≡ true → false ≡ begins_run X p
-  unfolding begins_run
-  begins_not e = rw e
-
-  pub begins_dead : begins_run X p ≡ true → X p ≡ false
-  unfolding begins_run
-  begins_dead e = not-true (X p) (and_l (not (X p)) (eqb p 1 || X (p - 1)) e)
-
-  pub begins_after : X p ≡ false → 1 < p → X (p - 1) ≡ begins_run X p
-  unfolding begins_run
-  begins_after e h = rw (e, ne_eqb p 1 (λ d. omega arith))
-
-pub begins_first : (X : List ℕ) (p : ℕ) → selected X p ≡ false → p ≤ 1 → eqb p 1 ≡ begins_run (selected X) p
+pub begins_dead : (X : Peptides) (p : ℕ) → begins_run X p ≡ true → X p ≡ false
 unfolding begins_run
-begins_first X zero e h = rw e
-begins_first X (suc zero) e h = rw e
-begins_first X (suc (suc p)) e h = absurd (omega arith)
+begins_dead X p e = not-true (X p) (and_l (not (X p)) (eqb p 1 || X (p - 1)) e)
 
 -- The totals.
 

@@ -6,7 +6,7 @@ use mathlib.Core.Logic.{⊎_elim}
 use mathlib.Core.Path.{◌≡◌, refl, sym, ap, ◌∙◌}
 use native.Mathlib.Numerals.{add-one}
 use native.Mathlib.Omega.{arith}
-use lib.ListN.{length, get_or, set, length-append, length-set}
+use lib.ListN.{length, get_or, set, replicate, length-append, length-set}
 use lib.Seq.{get_or-set_same, get_or-set_other}
 use lib.Dec.{eqb}
 use borrow.Author.Tests.{eqb-true, eqb-false}
@@ -21,29 +21,35 @@ use Rattle.reduction.proofs.Theory.Leaves.{leaves_count}
 
 -- Marks.
 
+-- nothing is marked
+pub none_marked : (n p : ℕ) → get_or (replicate n false) p false ≡ false
+none_marked zero p = refl
+none_marked (suc n) zero = refl
+none_marked (suc n) (suc p) = none_marked n p
+
 -- one place more is marked
-mark_more : (E : List ℕ) (X : Peptides) (i : ℕ) → i < length E → Marks E X → Marks (set E i 1) (λ p. eqb p i || X p)
+mark_more : (E : List Bool) (X : Peptides) (i : ℕ) → i < length E → Marks E X → Marks (set E i true) (λ p. eqb p i || X p)
 mark_more E X i h marks p =
     ⊎_elim
-    (λ t. let e = eqb-true p i t in rw (t, e) (get_or-set_same E i 1 0 h))
-    (λ f. rw f (get_or-set_other E i p 1 0 (eqb-false p i f) ∙ marks p))
+    (λ t. let e = eqb-true p i t in rw (t, e) (get_or-set_same E i true false h))
+    (λ f. rw f (get_or-set_other E i p true false (eqb-false p i f) ∙ marks p))
     (test (eqb p i))
 
 module _ (m : ℕ) (A B : List ℕ) where
   -- the first mark is at m
-  pub ends_first : (E : List ℕ) → m < length E → ((p : ℕ) → get_or E p 0 ≡ 0) → Marks (set E m 1) (ends_at m 0 A B)
+  pub ends_first : (E : List Bool) → m < length E → ((p : ℕ) → get_or E p false ≡ false) → Marks (set E m true) (ends_at m 0 A B)
   unfolding ends_at some_below
   ends_first E h none = mark_more E (λ p. false) m h none
 
   -- the two ends of the k-th range
-  pub ends_more : (E : List ℕ) (k : ℕ) → get_or A k 0 - 1 < length E → get_or B k 0 < length E → Marks E (ends_at m k A B)
-      → Marks (set (set E (get_or A k 0 - 1) 1) (get_or B k 0) 1) (ends_at m (k + 1) A B)
+  pub ends_more : (E : List Bool) (k : ℕ) → get_or A k 0 - 1 < length E → get_or B k 0 < length E → Marks E (ends_at m k A B)
+      → Marks (set (set E (get_or A k 0 - 1) true) (get_or B k 0) true) (ends_at m (k + 1) A B)
   unfolding ends_at some_below
   ends_more E k ha hb marks p =
       let a = get_or A k 0 - 1 in
       let b = get_or B k 0 in
-      let both = mark_more (set E a 1) (λ q. eqb q a || ends_at m k A B q) b (rw length-set hb) (mark_more E (ends_at m k A B) a ha marks) p in
-      rw (add-one k) (both ∙ ap (λ (t : Bool). cond t 1 0) (turned (eqb p m) (some_below k (λ j. eqb p (get_or A j 0 - 1) || eqb p (get_or B j 0))) (eqb p a) (eqb p b)))
+      let both = mark_more (set E a true) (λ q. eqb q a || ends_at m k A B q) b (rw length-set hb) (mark_more E (ends_at m k A B) a ha marks) p in
+      rw (add-one k) (both ∙ (turned (eqb p m) (some_below k (λ j. eqb p (get_or A j 0 - 1) || eqb p (get_or B j 0))) (eqb p a) (eqb p b)))
     where
       turned : (e s x y : Bool) → (y || (x || (e || s))) ≡ (e || (s || (x || y)))
       turned true true true true = refl
@@ -64,19 +70,20 @@ module _ (m : ℕ) (A B : List ℕ) where
       turned false false false false = refl
 
 -- the set that is marked is the set of the places that hold 1
-pub marked_set_lem : (E : List ℕ) (X : Peptides) → Marks E X → marked_in E ≡ X
+pub marked_set_lem : (E : List Bool) (X : Peptides) → Marks E X → marked_in E ≡ X
 unfolding marked_in
-marked_set_lem E X marks = λ i p. (ap (λ (n : ℕ). eqb n 1) (marks p) ∙ eqb_bit (X p)) i
-
-pub marks_itself : (E : List ℕ) (X : Peptides) → Marks E X → Marks E (marked_in E)
-marks_itself E X marks = rw (marked_set_lem E X marks) marks
+marked_set_lem E X marks = λ i p. marks p i
 
 -- How many leaves end.
 
--- the byte of the next peptide is what it adds
-pub count_next : (E : List ℕ) → Marks E (marked_in E) → (p : ℕ) → card (p + 1) (marked_in E) ≡ card p (marked_in E) + get_or E (p + 1) 0
-unfolding card
-count_next E marks p = rw (marks (p + 1), add-one p)
+-- one more where the next peptide is marked
+pub count_marked : (E : List Bool) (p : ℕ) → get_or E (p + 1) false ≡ true → card (p + 1) (marked_in E) ≡ card p (marked_in E) + 1
+unfolding card marked_in
+count_marked E p e = let here : get_or E (suc p) false ≡ true = rw (add-one p) at e in rw (add-one p, here)
+
+pub count_unmarked : (E : List Bool) (p : ℕ) → get_or E (p + 1) false ≡ false → card (p + 1) (marked_in E) ≡ card p (marked_in E)
+unfolding card marked_in
+count_unmarked E p e = let here : get_or E (suc p) false ≡ false = rw (add-one p) at e in rw (add-one p, here) (omega arith)
 
 -- from the first peptide on, they are all that end
 pub count_all : (X : Peptides) (m r : ℕ) → r + card 0 X ≡ card m X → r ≡ card m X

@@ -164,11 +164,10 @@ joined out h l r a six e =
         (append_assoc (mark ++ bytes_of h) (bytes_of l) (bytes_of r) ∙ append_assoc mark (bytes_of h) (bytes_of l ++ bytes_of r))
 
 -- how much is written, and that there is room for it
-pub record Room (m n N : ℕ) (E : List ℕ) (room : ℕ) : Type 0 where
+pub record Room (m n N : ℕ) (E : List Bool) (room : ℕ) : Type 0 where
   pub line : m ≤ 4096
   pub few_leaves : N ≤ 4096
   pub few_regions : n ≤ 8191
-  pub leaf_lengths_lem : N ≡ card m (marked_in E)
   pub enough : 16 + 2 * N + 6 * n ≤ room
 
 -- What is written from the list of the reduced ranges of an accepted file.
@@ -215,7 +214,7 @@ module _ (s : List ℕ) (bytes : IsBytes s) (accepted : Accepted s) (n : ℕ) (A
     ranges_listed = rw line listed_on_line
 
     -- E marks where the leaves end, N is how many they are
-    module _ (E : List ℕ) (marks : Marks E (ends_at m n A B)) (N : ℕ) (count : N ≡ card m (marked_in E)) where
+    module _ (E : List Bool) (marks : Marks E (ends_at m n A B)) (N : ℕ) (count : N ≡ card m (marked_in E)) where
       marked : marked_in E ≡ ends_leaf F.peptides Q
       marked = marked_set_lem E (ends_at m n A B) marks ∙ ap (λ (k : ℕ). ends_at k n A B) line ∙ listed_ends
 
@@ -230,7 +229,6 @@ module _ (s : List ℕ) (bytes : IsBytes s) (accepted : Accepted s) (n : ℕ) (A
             line = omega (arith, line, formed.peptides_most);
             few_leaves = omega (arith, leaf_count, w.leaves_most, w.peptides_most);
             few_regions = omega (arith, regions_there);
-            leaf_lengths_lem = count;
             enough = omega (arith, leaf_count, regions_there, file_length G, fits);
           }
         where

@@ -1,5 +1,5 @@
 -- What the private functions that write the reduced file promise each other.
-use Rattle.std.specs.Prelude.{ℕ, ◌+◌, ◌*◌, ◌-◌, ◌≤◌, ◌<◌, cond, ◌||◌, List, [], ◌∷◌, ◌++◌, ◌≡◌, length, get_or, drop, eqb}
+use Rattle.std.specs.Prelude.{ℕ, ◌+◌, ◌*◌, ◌-◌, ◌≤◌, ◌<◌, Bool, false, ◌||◌, List, [], ◌∷◌, ◌++◌, ◌≡◌, length, get_or, drop, eqb}
 use Rattle.reader.specs.Lists.{some_below}
 use Rattle.reader.specs.Bytes.{number_at}
 use Rattle.bounds.specs.Ranges.{Peptides, card}
@@ -23,13 +23,13 @@ pub record OnLine (m n : ℕ) (A B : List ℕ) : Type 0 where
 unfoldable pub ends_at : ℕ → ℕ → List ℕ → List ℕ → Peptides
 ends_at m n A B p = eqb p m || some_below n (λ k. eqb p (get_or A k 0 - 1) || eqb p (get_or B k 0))
 
--- the bytes mark the set: 1 at its members, else 0
-abbrev pub Marks : List ℕ → Peptides → Type 0
-Marks E X = (p : ℕ) → get_or E p 0 ≡ cond (X p) 1 0
+-- the list marks the set: it holds true at its members
+abbrev pub Marks : List Bool → Peptides → Type 0
+Marks E X = (p : ℕ) → get_or E p false ≡ X p
 
--- the set of the places that hold 1
-unfoldable pub marked_in : List ℕ → Peptides
-marked_in E p = eqb (get_or E p 0) 1
+-- the set of the places that hold true
+unfoldable pub marked_in : List Bool → Peptides
+marked_in E p = get_or E p false
 
 -- The numbers of the regions of n ranges: first leaf, last leaf and z. X is the set of the peptides at which a leaf ends.
 unfoldable pub region_numbers : ℕ → Peptides → List ℕ → List ℕ → List ℕ → List ℕ

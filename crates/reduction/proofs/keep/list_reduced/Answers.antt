@@ -23,7 +23,6 @@ mark_kept-requires c =
       with_stretches = known s bytes c.requires.parented.accepted c.args.live.now (firsts_of c.args.stretches.now) (lasts_of c.args.stretches.now) c.requires.stretched;
       totals_below = totals_at s c.args.bounds.now c.requires.totalled;
       weighed_below = c.weigh.ensures;
-      kept_room = (with_parents s c.args.parents.now bytes c.requires.parented).room;
     }
 
 pub gather-requires : goal.gather-requires

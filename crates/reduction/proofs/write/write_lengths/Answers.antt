@@ -1,5 +1,4 @@
-use Rattle.std.proofs.Common.{◌≡◌, ◌+◌, ◌-◌, ◌≤◌, ℕ, List, [], ◌∷◌, get_or, refl, sym, ap, ◌∙◌, arith}
-use borrow.Author.Tests.{eq-eqb, ne_eqb}
+use Rattle.std.proofs.Common.{◌≡◌, ◌+◌, ◌-◌, ◌≤◌, ℕ, Bool, true, false, List, [], ◌∷◌, get_or, refl, sym, ap, ◌∙◌, arith}
 use Rattle.reader.specs.Bytes.{with_numbers}
 use Rattle.bounds.specs.Ranges.{card}
 use Rattle.bounds.proofs.Basics.Counting.{card_most}
@@ -8,16 +7,16 @@ use Rattle.reduction.specs.Private.Writing.{marked_in}
 use Rattle.reduction.proofs.Basics.FirstLast.{last_of_small}
 use Rattle.reduction.proofs.Writing.LeafEnds.{LeafEnds, leaf_ends, LeafGoesOn, leaf_goes_on, lengths_none, lengths_more}
 use Rattle.reduction.proofs.write.write_lengths.Goals as goal
-use Rattle.reduction.proofs.write.write_lengths.Goals.{then-borders-p-eq1, else-borders-p-eq1}
+use Rattle.reduction.proofs.write.write_lengths.Goals.{then-borders-p, else-borders-p}
 
--- a leaf ends at p
-ending : (E : List ℕ) (p : ℕ) → 1 ≤ p → get_or E p 0 ≡ 1 → LeafEnds (marked_in E) p
+-- what follows where a leaf ends at p, and where none does
+ending : (E : List Bool) (p : ℕ) → 1 ≤ p → get_or E p false ≡ true → LeafEnds (marked_in E) p
 unfolding marked_in
-ending E p h e = leaf_ends (marked_in E) p h (eq-eqb _ 1 e)
+ending E p h e = leaf_ends (marked_in E) p h e
 
-going_on : (E : List ℕ) (p : ℕ) → 1 ≤ p → (get_or E p 0 ≡ 1 → ⊥) → LeafGoesOn (marked_in E) p
+going_on : (E : List Bool) (p : ℕ) → 1 ≤ p → get_or E p false ≡ false → LeafGoesOn (marked_in E) p
 unfolding marked_in
-going_on E p h e = leaf_goes_on (marked_in E) p h (ne_eqb _ 1 e)
+going_on E p h e = leaf_goes_on (marked_in E) p h e
 
 pub loop-p-init : goal.loop-p-init
 unfolding last_of card
@@ -37,9 +36,9 @@ loop-p-preserved c =
     let p = c.loop-p.p in
     let inv = c.loop-p.invariant in
     let down : p + 1 - 1 ≡ p = omega arith in
-    elim c.if-borders-p-eq1.branch [
-      | then-borders-p-eq1 w ↦
-          let e = ending c.args.borders.now p (omega arith) w.if-borders-p-eq1.true in record {
+    elim c.if-borders-p.branch [
+      | then-borders-p w ↦
+          let e = ending c.args.borders.now p (omega arith) w.if-borders-p.true in record {
             last = rw (down, w.last-is) (sym e.last);
             at = rw (down, w.at-is) (omega (arith, e.count, inv.at));
             written = rw (down, w.out-is) (
@@ -47,8 +46,8 @@ loop-p-preserved c =
                 ∙ ap (λ (l : List ℕ). with_numbers l c.loop-p.at ((p - c.loop-p.last) ∷ [])) inv.written
                 ∙ rw (inv.last, inv.at) (lengths_more X p c.args.out.now e));
           }
-      | else-borders-p-eq1 w ↦
-          let e = going_on c.args.borders.now p (omega arith) w.if-borders-p-eq1.false in record {
+      | else-borders-p w ↦
+          let e = going_on c.args.borders.now p (omega arith) w.if-borders-p.false in record {
             last = rw (down, w.last-is) (inv.last ∙ sym e.last);
             at = rw (down, w.at-is) (omega (arith, e.count, inv.at));
             written = rw (down, w.out-is) (inv.written ∙ ap (with_numbers c.args.out.now 16) (sym e.lengths));

@@ -6,8 +6,7 @@ use Rattle.reader.specs.Family.{mark}
 use Rattle.bounds.specs.Ranges.{card}
 use Rattle.reduction.specs.Reduction.{leaf_lengths}
 use Rattle.reduction.specs.Private.Writing.{OnLine, ends_at, Marks, marked_in, region_numbers}
-use Rattle.reader.proofs.Lists.{zeros}
-use Rattle.reduction.proofs.Writing.LeafEnds.{marks_itself, count_all}
+use Rattle.reduction.proofs.Writing.LeafEnds.{none_marked, count_all}
 use Rattle.reduction.proofs.Writing.WholeFile.{Room, listed_front, listed_length, ranges_listed, has_room, wrote, line_longer}
 use Rattle.reduction.proofs.write.write_reduced.Goals as goal
 use Rattle.reduction.proofs.write.write_reduced.Goals.{After-borders_between-leaves, After-mark_borders, After-peptide_count-m}
@@ -43,7 +42,7 @@ pub mark_borders-requires : goal.mark_borders-requires
 mark_borders-requires c =
     let p = (goal.at.mark_borders-requires c).After-peptide_count-m in record {
       on_line = rw (many p) (on_line p (λ i. omega (arith, c.type_inv.file i)));
-      unmarked = λ q. zeros 4097 q;
+      unmarked = λ q. none_marked 4097 q;
     }
 
 pub borders_between-leaves-requires : goal.borders_between-leaves-requires
@@ -51,7 +50,6 @@ borders_between-leaves-requires c =
     let p = (goal.at.borders_between-leaves-requires c).After-peptide_count-m in record {
       after_le_upto = omega arith;
       on_line = (on_line p (λ i. omega (arith, c.type_inv.file i))).line;
-      marks = marks_itself _ _ c.mark_borders.ensures;
     }
 
 pub write_header-total-requires : goal.write_header-total-requires
@@ -61,10 +59,7 @@ write_header-total-requires c =
     record { leaves_bound = r.few_leaves; regions_bound = r.few_regions; lengths_at_bound = omega arith; room = omega (arith, r.enough) }
 
 pub write_lengths-requires : goal.write_lengths-requires
-write_lengths-requires c =
-    let a = goal.at.write_lengths-requires c in
-    let r = room a.After-borders_between-leaves (λ i. omega (arith, c.type_inv.file i)) (marks a.After-mark_borders (many a.After-peptide_count-m)) in
-    record { on_line = r.line; room = omega (arith, r.enough, r.leaf_lengths_lem, c.write_header-total.auto.out) }
+write_lengths-requires c = (on_line (goal.at.write_lengths-requires c).After-peptide_count-m (λ i. omega (arith, c.type_inv.file i))).line
 
 pub write_regions-requires : goal.write_regions-requires
 write_regions-requires c =
@@ -76,7 +71,6 @@ write_regions-requires c =
     record {
       on_line = rw (many p) (line_longer (on_line p bytes));
       bounds = omega (arith, many p, length-take-le c.args.n c.args.bounds.now long);
-      marks = marks_itself _ _ c.mark_borders.ensures;
       room = omega (arith, many p, r.enough, c.write_header-total.auto.out, c.write_lengths.auto.out);
     }
 
