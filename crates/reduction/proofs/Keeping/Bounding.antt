@@ -10,7 +10,7 @@ use lib.ListN.{length, get_or, set}
 use borrow.Author.Tests.{ltb-true, lt-ltb, eqb-true, eqb-false, eq-eqb, ne_eqb, not-false}
 use Rattle.reader.specs.Family.{Family, region_count, region}
 use Rattle.reader.specs.WellFormed.{IsParent}
-use Rattle.reader.proofs.Bools.{test, clash, refuted, and_l, and_r, and_both, and_fails, or_r}
+use Rattle.reader.proofs.Bools.{test, clash, and_l, and_r, and_both, and_fails, or_r}
 use Rattle.reduction.specs.Private.Keeping.{first_at, SameStretch, LastWithStretch, WithStretches, same_ends, Weighed, WeighedBelow, TotalsBelow, Keeps, KeptMarked, NextStretch, kept_bound}
 use Rattle.reduction.proofs.Keeping.Weighing.{parent_some, weighed_same, weighed_other}
 use Rattle.reduction.proofs.Keeping.Marking.{weighed_keeps, keeps_weighed, inner_last, inner_other, not_inner, kept_marked_more, next_here, next_past}

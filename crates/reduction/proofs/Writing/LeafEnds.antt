@@ -1,6 +1,6 @@
 -- The leaf ends marked in a list of bytes, their number, the leaf lengths between them and the regions' numbers, one step at a time.
 use Prim.Native.Nat.{ℕ, zero, suc, ◌+◌, ◌*◌, ◌-◌, ◌≤◌, ◌<◌}
-use mathlib.Core.Bool.{Bool, true, false, cond, ◌||◌}
+use mathlib.Core.Bool.{Bool, true, false, ◌||◌}
 use mathlib.Core.List.{List, [], ◌∷◌, ◌++◌, append-nil}
 use mathlib.Core.Logic.{⊎_elim}
 use mathlib.Core.Path.{◌≡◌, refl, sym, ap, ◌∙◌}
@@ -14,7 +14,7 @@ use Rattle.reader.specs.Lists.{some_below}
 use Rattle.reader.specs.Bytes.{with_numbers}
 use Rattle.reader.proofs.NumberRows.{numbers_none, numbers_join}
 use Rattle.bounds.specs.Ranges.{Peptides, card}
-use Rattle.bounds.proofs.Basics.Members.{test, eqb_bit}
+use Rattle.bounds.proofs.Basics.Members.{test}
 use Rattle.reduction.specs.Reduction.{rising, last_of, leaf_lengths}
 use Rattle.reduction.specs.Private.Writing.{ends_at, Marks, marked_in, region_numbers}
 use Rattle.reduction.proofs.Theory.Leaves.{leaves_count}

@@ -1,4 +1,4 @@
-use Rattle.std.proofs.Common.{◌<◌, sym, ◌∙◌, arith}
+use Rattle.std.proofs.Common.{sym, ◌∙◌, arith}
 use Rattle.reader.specs.Family.{family_of}
 use Rattle.reduction.proofs.Keeping.Gathering.{same_trans, found_room, found_more, not_found}
 use Rattle.reduction.proofs.keep.append_runs.Goals as goal
@@ -11,7 +11,7 @@ push-requires-clause-few c =
     omega (
       arith,
       pre.few,
-      found_room (family_of c.args.file.now) c.args.live.now pre.lives c.loop-p.p _ _ c.peptide_count-peptides.ensures (omega (arith, pre.positive)) (sym c.begins_run.ensures ∙ c.if-begins_run.true) c.run_end-last.ensures t c.loop-p.ranges (c.loop-p.invariant.gathered t g)
+      found_room (family_of c.args.file.now) c.args.live.now pre.lives c.loop-p.p _ _ c.peptide_count-peptides.ensures (omega (arith, pre.positive)) (sym c.begins_run.ensures ∙ c.if-begins_run.true) c.run_end-last.ensures t c.loop-p.ranges (c.loop-p.invariant.gathered t g),
     )
 
 pub loop-p-preserved : goal.loop-p-preserved

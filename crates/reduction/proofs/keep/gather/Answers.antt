@@ -46,7 +46,7 @@ push-requires-clause-few c =
       arith,
       pre.runs_ahead.few,
       stretch_has_room pre.with_stretches C pre.kept_marked k _ _ _ (omega arith) c.nth-z.ensures c.if-z-ne0.true e.first e.last c.append_runs.new.ranges
-      (c.append_runs.ensures.gathered (of_first (family_of c.args.file.now) C k) c.loop-k.invariant.gathered)
+          (c.append_runs.ensures.gathered (of_first (family_of c.args.file.now) C k) c.loop-k.invariant.gathered),
     )
 
 pub loop-k-preserved : goal.loop-k-preserved
