@@ -26,9 +26,6 @@ write_bound-requires c =
     let k = clear (goal.at.write_bound-requires c).In_ok-check_bound in
     record { ready = none_ready c.args.file.now _ _ (λ i. omega (arith, c.type_inv.file i)) k; room = (none_holds _ _ _ k).room }
 
-pub shape_of-taken : goal.shape_of-taken
-shape_of-taken c = c.write_bound.auto.taken
-
 pub returns : goal.returns
 returns c =
     let s = c.args.file.now in

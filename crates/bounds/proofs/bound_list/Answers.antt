@@ -2,7 +2,7 @@
 use Prim.Native.Nat.{ℕ, ◌+◌}
 use native.Mathlib.Omega.{arith}
 use mathlib.Core.Path.{◌≡◌, sym, ap, ◌∙◌}
-use lib.ListN.{length, drop, length-append, length-drop}
+use lib.ListN.{length}
 use lib.Seq.{length-take-le}
 use Rattle.reader.specs.Family.{family_of, region_count}
 use Rattle.reader.specs.Causes.{first_cause}
@@ -32,7 +32,7 @@ slice_bounds-write_bounds-end-in-Ok c =
 
 pub write_bounds-requires : goal.write_bounds-requires
 write_bounds-requires c =
-    let n = no_list_cause _ _ _ _ _ (clear (goal.at.write_bounds-requires c).In-Ok) in record { well_formed = well_formed_lem _ (λ i. omega (arith, c.shared_slice_known-1.given i)) n.accepted; whole = rw (length-take-le c.args.count c.args.values.now n.room) n.whole }
+    let n = no_list_cause _ _ _ _ _ (clear (goal.at.write_bounds-requires c).In-Ok) in record { well_formed = well_formed_lem _ (λ i. omega (arith, c.type_inv.file i)) n.accepted; whole = rw (length-take-le c.args.count c.args.values.now n.room) n.whole }
 
 charge_is : (c : After-charge_of-charge) → c.charge_of-charge.result ≡ charge_of (region_count (family_of c.args.file.now)) c.args.count
 charge_is c = c.charge_of-charge.ensures ∙ ap (λ (K : ℕ). charge_of K c.args.count) c.region_count.ensures
@@ -41,12 +41,6 @@ pub overflow_add-result : goal.overflow_add-result
 overflow_add-result c =
     let n = no_list_cause _ _ _ _ _ (clear (goal.at.overflow_add-result c).In-Ok) in
     record { fits = omega (arith, n.fits, charge_is (goal.at.overflow_add-result c).After-charge_of-charge) }
-
-pub shape_of-values : goal.shape_of-values
-shape_of-values c =
-    let n = no_list_cause _ _ _ _ _ (clear (goal.at.shape_of-values c).In-Ok) in
-    let values = c.args.values.now in
-    omega (arith, length-append c.write_bounds.new.values (drop c.args.count values), length-drop c.args.count values, length-take-le c.args.count values n.room, c.write_bounds.auto.values, n.room)
 
 pub returns-in-Ok : goal.returns-in-Ok
 returns-in-Ok c =

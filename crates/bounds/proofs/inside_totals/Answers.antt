@@ -26,10 +26,6 @@ line_value-value-requires c =
     let k = clear (goal.at.line_value-value-requires c).In_ok-check_selection in
     record { ready = none_ready c.args.file.now _ _ (λ i. omega (arith, c.type_inv.file i)) k; file_in_bounds = (none_holds _ _ _ k).room }
 
-pub shape_of-out : goal.shape_of-out
-shape_of-out c =
-    c.line_value-value.auto.totals
-
 pub returns : goal.returns
 returns c =
     let s = c.args.file.now in

@@ -1,8 +1,7 @@
 -- The entries are what the marks add up to, so the largest t that passes is the cut.
 use Prim.Native.Nat.{ℕ, ◌*◌}
-use native.Mathlib.Omega.{arith}
-use mathlib.Core.Path.{◌≡◌, sym, ap, ◌∙◌}
-use lib.ListN.{length, take, length-replicate}
+use mathlib.Core.Path.{◌≡◌, ap, ◌∙◌}
+use lib.ListN.{length, take}
 use lib.Dec.{leb}
 use Rattle.reader.specs.Family.{family_of}
 use Rattle.bounds.specs.Curves.{entry, curve_marks, cut_of}
@@ -14,13 +13,6 @@ use Rattle.bounds.proofs.entries.find_cut.Goals.{After-mark_path}
 -- the part of the list that is passed on is the marks
 part : (c : After-mark_path) → take (length c.args.path.now) c.mark_path.new.marks ≡ curve_marks (family_of c.args.file.now) c.args.path.now
 part c = marks_written _ _ _ _ c.mark_path.ensures
-
-pub mark_path-requires : goal.mark_path-requires
-mark_path-requires c =
-    record { walkable = c.requires; path_in_bounds = omega (arith, c.requires.short, c.requires.well.peptides_most, length-replicate {A = ℕ} 4096 0) }
-
-pub slice_bounds-last_passing-end : goal.slice_bounds-last_passing-end
-slice_bounds-last_passing-end c = sym (ap length (part (goal.at.slice_bounds-last_passing-end c).After-mark_path) ∙ marks_many _ _)
 
 pub last_passing-requires : goal.last_passing-requires
 last_passing-requires c =

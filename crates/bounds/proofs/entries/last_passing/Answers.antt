@@ -1,7 +1,6 @@
 use Prim.Native.Nat.{◌+◌}
 use native.Mathlib.Omega.{arith}
 use mathlib.Core.Path.{◌≡◌, sym}
-use lib.ListN.{length}
 use Rattle.bounds.specs.Private.Walks.{marks_up_to}
 use Rattle.bounds.proofs.Walking.Steps.{marks_none, marks_more, passing_none, passing_more}
 use Rattle.bounds.proofs.entries.last_passing.Goals as goal
@@ -9,10 +8,6 @@ use Rattle.bounds.proofs.entries.last_passing.Goals as goal
 pub loop-i-init : goal.loop-i-init
 loop-i-init c =
     record { few = omega arith; sum = sym (marks_none c.args.marks.now); passes = passing_none c.args.marks.now _ _ }
-
-pub next_entry-entry-requires : goal.next_entry-entry-requires
-next_entry-entry-requires c =
-    (omega (arith, c.requires.few, c.loop-i.invariant.few, c.loop-i-test.true), c.requires.small c.loop-i.i c.loop-i-test.true)
 
 pub loop-i-preserved : goal.loop-i-preserved
 loop-i-preserved c =
@@ -25,8 +20,3 @@ loop-i-preserved c =
       sum = e;
       passes = passing_more M args.a args.b i _ _ _ e inv.passes c.later_cut-cut.ensures;
     }
-
-pub returns : goal.returns
-returns c =
-    let end : c.loop-i.i ≡ length c.args.marks.now = omega arith in
-    rw end at c.loop-i.invariant.passes

@@ -16,10 +16,6 @@ use Rattle.bounds.proofs.entries.write_curve.Goals.{After-mark_path}
 part : (c : After-mark_path) → take (length c.args.path.now) c.mark_path.new.marks ≡ curve_marks (family_of c.args.file.now) c.args.path.now
 part c = marks_written _ _ _ _ c.mark_path.ensures
 
-pub mark_path-requires : goal.mark_path-requires
-mark_path-requires c =
-    record { walkable = c.requires.walkable; path_in_bounds = c.requires.marks_room }
-
 pub write_values-requires : goal.write_values-requires
 write_values-requires c =
     let pre = c.requires in

@@ -2,8 +2,7 @@ use Prim.Native.Nat.{ℕ, ◌+◌}
 use native.Mathlib.Omega.{arith}
 use mathlib.Core.List.{List}
 use mathlib.Core.Path.{◌≡◌, refl, sym, ap, ◌∙◌}
-use lib.ListN.{set, length, length-set}
-use lib.Seq.{drop-set-lt}
+use lib.ListN.{set, length-set}
 use Rattle.bounds.specs.Private.Walks.{marks_up_to}
 use Rattle.reader.proofs.Lists.{write_first, write_more}
 use Rattle.bounds.proofs.Walking.Steps.{marks_none, marks_more}
@@ -19,10 +18,6 @@ loop-t-init c =
       written = write_first (marks_up_to M) c.args.values.now 0 (omega (arith, c.requires.room)) (sym (marks_none M));
     }
 
-pub next_entry-entry-requires : goal.next_entry-entry-requires
-next_entry-entry-requires c =
-    (omega (arith, c.requires.marks_of.few, c.loop-t.invariant.few, c.loop-t-test.true), c.requires.marks_of.small c.loop-t.t c.loop-t-test.true)
-
 pub loop-t-preserved : goal.loop-t-preserved
 loop-t-preserved c =
     let inv = c.loop-t.invariant in
@@ -36,14 +31,3 @@ loop-t-preserved c =
       written = ap (λ (l : List ℕ). set l (t + 1) c.next_entry-entry.result) inv.written
           ∙ write_more (marks_up_to M) values (t + 1) c.next_entry-entry.result (simp length-set (omega (arith, c.requires.room))) e;
     }
-
-pub shape_of-values : goal.shape_of-values
-shape_of-values c =
-    simp length-set at c.loop-t.invariant.same_length
-
-pub returns : goal.returns
-returns c =
-    let inv = c.loop-t.invariant in
-    let places = length c.args.marks.now in
-    let end : c.loop-t.t ≡ places = omega arith in
-    (rw end at inv.written) ∙ rw (drop-set-lt (places + 1) c.args.values.now 0 0 (omega arith))

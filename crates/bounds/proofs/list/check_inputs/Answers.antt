@@ -6,9 +6,7 @@ use mathlib.Core.Path.{◌≡◌, sym, ◌∙◌}
 use borrow.Author.Tests.{lt-ltb, le-ltb}
 use Rattle.bounds.specs.SelectionLists.{list_cause14}
 use Rattle.bounds.specs.Tally.{charge_of}
-use Rattle.bounds.proofs.Walking.Steps.{product_fits}
 use Rattle.bounds.proofs.Calls.ListCalls.{inputs_judged}
-use borrow.Author.Rules.{rules}
 use Rattle.bounds.proofs.list.check_inputs.Goals as goal
 use Rattle.bounds.proofs.list.check_inputs.Goals.{Else-bad_selection}
 

@@ -31,11 +31,6 @@ module _ (s : List ℕ) (a b : ℕ) (h : (a ≤ b) × (b ≤ length s)) where
       let next : a + (i + 1) ≡ a + i + 1 = omega arith in
       rw next (omega (arith, card_next (a + i) (selected s), ap bit (bit_here i l)))
 
-pub loop-byte-init : goal.loop-byte-init
-loop-byte-init c =
-    let start : c.args.after.0 + 0 ≡ c.args.after.0 = omega arith in
-    record { few = omega arith; counted = rw start (omega arith) }
-
 pub loop-byte-preserved : goal.loop-byte-preserved
 loop-byte-preserved c =
     let i = c.loop-byte.byte-index in
@@ -49,8 +44,3 @@ loop-byte-preserved c =
         counted = omega (arith, counted c.args.selection.now c.args.after.0 c.args.upto.0 c.requires i c.loop-byte.count 0 c.loop-byte-test.true (sym (ap bit (ne_eqb _ 1 w.if-byte-eq1.false))) c.loop-byte.invariant.counted);
       }
     ]
-
-pub returns : goal.returns
-returns c =
-    let end : c.args.after.0 + c.loop-byte.byte-index ≡ c.args.upto.0 = omega (arith, many c.args.selection.now c.args.after.0 c.args.upto.0 c.requires) in
-    rw end at c.loop-byte.invariant.counted
