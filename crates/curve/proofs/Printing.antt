@@ -1,13 +1,12 @@
 -- What the program prints for each answer of the check and of the curve.
 use Prim.Native.Nat.{ℕ, zero, suc, ◌+◌, ◌<◌, ◌≤◌}
 use native.Mathlib.Omega.{arith}
-use mathlib.Core.Bool.{true, false, not, ◌||◌}
+use mathlib.Core.Bool.{true, false, ◌||◌}
 use mathlib.Core.List.{List, [], ◌∷◌, ◌++◌}
 use mathlib.Core.Path.{◌≡◌, refl, sym, ap, ap₂, ◌∙◌}
 use mathlib.Core.Logic.{⊎_elim}
 use lib.ListN.{length, get_or, get_or-append}
-use lib.Dec.{eqb}
-use borrow.Author.Tests.{ne_eqb, eqb-true, eqb-false, le-ltb, ltb-false, not-true, not-false}
+use borrow.Author.Tests.{ne_eqb, le-ltb, ltb-false}
 use Rattle.reader.specs.Family.{Family, family_of}
 use Rattle.reader.specs.Causes.{Cause, first_cause, header_causes, family_causes, file_causes, Accepted}
 use Rattle.reader.specs.Calls.{short}

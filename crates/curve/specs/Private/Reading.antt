@@ -3,7 +3,7 @@ use Rattle.std.specs.Prelude.{ℕ, ◌/◌, List, ◌≡◌, length, take, Resul
 use Rattle.curve.specs.Program.{path_of}
 
 -- how many bytes of a file count after a read that brought none: those before it, but none if it failed, which an error says
-unfoldable pub counted : {E : Type 0} → ℕ → Result ℕ E → ℕ
+abbrev pub counted : {E : Type 0} → ℕ → Result ℕ E → ℕ
 counted done (Ok k) = done
 counted done (Err e) = 0
 

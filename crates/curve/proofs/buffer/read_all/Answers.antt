@@ -6,7 +6,6 @@ use Rattle.curve.specs.Private.Reading.{counted}
 use Rattle.curve.proofs.buffer.read_all.Goals as goal
 
 few : {E : Type 0} (done : ℕ) (got : Result ℕ E) → counted done got ≤ done
-unfolding counted
 few done (Ok k) = omega arith
 few done (Err e) = omega arith
 

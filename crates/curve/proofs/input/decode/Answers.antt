@@ -1,7 +1,5 @@
 use native.Mathlib.Omega.{arith}
-use mathlib.Core.Path.{◌≡◌, refl}
-use Prim.Native.Nat.{◌/◌}
-use lib.ListN.{length}
+use mathlib.Core.Path.{refl}
 use Rattle.curve.proofs.Decoding.{path_held}
 use Rattle.curve.proofs.input.decode.Goals as goal
 

@@ -3,9 +3,6 @@ use Rattle.reader.proofs.Refusals.{number_some}
 use Rattle.curve.proofs.Printing.{prints_refusal}
 use Rattle.curve.proofs.output.render.Goals as goal
 
-pub returns-in-Ok : goal.returns-in-Ok
-returns-in-Ok c = rw (← c.as_slice.ensures.value, ← c.as_slice-2.ensures.value) c.in-Ok.ensures
-
 pub returns-in-Err : goal.returns-in-Err
 returns-in-Err c =
     rw (← c.as_slice.ensures.value, ← c.as_slice-2.ensures.value, prints_refusal _ _ _ c.in-Err.ensures (number_some _)) c.refusal_text.ensures
