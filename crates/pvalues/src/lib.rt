@@ -19,6 +19,7 @@ use writing::write_from_p;
 // a refusal names the first cause that holds. p-values are whole millionths, the first that of peptide 1.
 // The constant is the square of the source's deviation term: half the natural logarithm of 1/λ for a risk level λ, in millionths, rounded
 // up. The z of the given file are not used. A declined call leaves the output unchanged.
+// The inputs are handed on one by one: a struct of them would be made here only to be taken apart in each function.
 pub fn bounds_from_p(
     file: &[u8],
     p_values: &[u32],

@@ -1,8 +1,8 @@
 use Prim.Native.Nat.{ℕ, ◌-◌, ◌≤◌, ◌<◌}
 use native.Mathlib.Omega.{arith}
-use mathlib.Core.Path.{◌≡◌, refl, sym, ap, ap₂, ◌∙◌}
+use mathlib.Core.Path.{◌≡◌, sym, ap, ap₂, ◌∙◌}
 use lib.ListN.{get_or, length-map, length-set}
-use Rattle.bounds.proofs.Walking.Holding.{chain_starts, chain_next, change_starts, change_steps, one_less}
+use Rattle.bounds.proofs.Walking.Holding.{chain_next, change_steps, one_less}
 use Rattle.pvalues.specs.Private.Climbing.{left_of_each, z_of_each}
 use Rattle.pvalues.proofs.Finding.Regions.{left_read, z_read, left_other, z_other, left_set, z_set}
 use Rattle.pvalues.proofs.Finding.Climbs.{lowered_ends, lowered_at}
@@ -25,14 +25,6 @@ here c =
       omega (arith, (n.known (c.loop-number.number - 1) (omega (arith, c.loop-number-test.true))).earlier, c.loop-number-test.true),
       u.small (c.loop-number.number - 1) (omega (arith, c.loop-number-test.true)),
     )
-
-pub loop-number-init : goal.loop-number-init
-loop-number-init c =
-    (omega arith, c.told-regions, λ i l. refl, λ i l. refl, λ F leaf n h. (chain_starts F leaf _ h, change_starts F _ _ leaf _ h, change_starts F _ _ leaf _ h))
-
-pub loop-number-smaller : goal.loop-number-smaller
-loop-number-smaller c =
-    (here (goal.at.loop-number-smaller c).In-loop-number).1
 
 pub returns : goal.returns
 returns c =

@@ -62,21 +62,17 @@ pub overflow_sub-before : goal.overflow_sub-before
 overflow_sub-before c =
     omega (arith, here (goal.at.overflow_sub-before c).After-region_of-region, c.requires.well_formed.ordered.first_some c.loop-k.k (here (goal.at.overflow_sub-before c).After-region_of-region).0)
 
-pub peptides_of-low-requires : goal.peptides_of-low-requires
-peptides_of-low-requires c =
-    record { well_formed = c.requires.well_formed; upto_bound = omega (arith, here (goal.at.peptides_of-low-requires c).After-region_of-region, c.requires.well_formed.ordered.first_last c.loop-k.k (here (goal.at.peptides_of-low-requires c).After-region_of-region).0, c.requires.well_formed.ordered.last_leaf c.loop-k.k (here (goal.at.peptides_of-low-requires c).After-region_of-region).0) }
+pub peptides_of-low-requires-clause-upto_bound : goal.peptides_of-low-requires-clause-upto_bound
+peptides_of-low-requires-clause-upto_bound c =
+    omega (arith, here (goal.at.peptides_of-low-requires-clause-upto_bound c).After-region_of-region, c.requires.well_formed.ordered.first_last c.loop-k.k (here (goal.at.peptides_of-low-requires-clause-upto_bound c).After-region_of-region).0, c.requires.well_formed.ordered.last_leaf c.loop-k.k (here (goal.at.peptides_of-low-requires-clause-upto_bound c).After-region_of-region).0)
 
 pub overflow_add-low : goal.overflow_add-low
 overflow_add-low c =
     omega (arith, low (goal.at.overflow_add-low c).After-peptides_of-low, low_high c.requires.well_formed c.loop-k.k (here (goal.at.overflow_add-low c).After-region_of-region).0, high_most c.requires.well_formed c.loop-k.k (here (goal.at.overflow_add-low c).After-region_of-region).0, c.requires.well_formed.peptides_most)
 
-pub peptides_of-size-requires : goal.peptides_of-size-requires
-peptides_of-size-requires c =
-    record { well_formed = c.requires.well_formed; upto_bound = omega (arith, here (goal.at.peptides_of-size-requires c).After-region_of-region, c.requires.well_formed.ordered.last_leaf c.loop-k.k (here (goal.at.peptides_of-size-requires c).After-region_of-region).0) }
-
-pub bounds-regions-k : goal.bounds-regions-k
-bounds-regions-k c =
-    omega (arith, (here (goal.at.bounds-regions-k c).After-region_of-region).0, c.requires.well_formed.regions_most, c.requires.well_formed.leaves_most)
+pub peptides_of-size-requires-clause-upto_bound : goal.peptides_of-size-requires-clause-upto_bound
+peptides_of-size-requires-clause-upto_bound c =
+    omega (arith, here (goal.at.peptides_of-size-requires-clause-upto_bound c).After-region_of-region, c.requires.well_formed.ordered.last_leaf c.loop-k.k (here (goal.at.peptides_of-size-requires-clause-upto_bound c).After-region_of-region).0)
 
 pub overflow_add-low-in-loop-k : goal.overflow_add-low-in-loop-k
 overflow_add-low-in-loop-k c =

@@ -1,7 +1,6 @@
 -- The file is judged first, then the other inputs; an accepted file has its parents in the lent array.
 use native.Mathlib.Omega.{arith}
-use mathlib.Core.Path.{ap, ◌∙◌}
-use Rattle.reader.specs.Refusals.{verdict}
+use mathlib.Core.Path.{◌∙◌}
 use Rattle.reader.proofs.Refusals.{handed_on}
 use Rattle.reader.proofs.Accepting.{learns_accepted, learns_refused}
 use Rattle.reader.proofs.ParentLaws.{enough_checked}
