@@ -2,3 +2,4 @@
 pub mod Members
 pub mod Counting
 pub mod Nesting
+pub mod Known

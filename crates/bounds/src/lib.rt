@@ -86,10 +86,7 @@ pub fn curve(file: &[u8], path: &[u16], values: &mut [u16], marks: &mut [u8]) ->
 {
     let mut parents = [0u16; 8191];
     check_path(file, path, &mut parents)?;
-    if values.len() <= path.len() {
-        return Err(Refusal::Room);
-    }
-    if marks.len() < path.len() {
+    if values.len() <= path.len() || marks.len() < path.len() {
         return Err(Refusal::Room);
     }
     write_curve(file, &parents, path, values, marks);
@@ -102,10 +99,7 @@ pub fn cut(file: &[u8], path: &[u16], a: u16, b: u16) -> Result<u16, Refusal>
 {
     let mut parents = [0u16; 8191];
     check_path(file, path, &mut parents)?;
-    if b == 0 {
-        return Err(Refusal::Fraction);
-    }
-    if b < a {
+    if b == 0 || b < a {
         return Err(Refusal::Fraction);
     }
     Ok(find_cut(file, &parents, path, a, b))

@@ -1,56 +1,36 @@
 // The taken regions, in one pass in file order: a region is inside a taken one exactly if it begins no later than the latest
 // taken one ends, and the outermost full region around a region is taken.
 ghost use Rattle.std.specs.Prelude.{◌++◌, ◌≡◌, ◌≤◌, length, drop};
+ghost use Rattle.reader.specs.Calls.{held};
 ghost use Rattle.reader.specs.Family.{family_of, region_count};
 ghost use Rattle.bounds.specs.Selections.{bound_of, taken_of};
 ghost use Rattle.bounds.specs.Private.Rows.{Ready};
-ghost use Rattle.bounds.specs.Private.Takes.{TakeDecided, taken_along};
+ghost use Rattle.bounds.specs.Private.Takes.{takes_region, taken_along};
 
 use crate::rows::line_value;
-use reader::family::{Leaf, region_count, region_of};
+use reader::family::{Leaf, Region, region_count, region_of};
 
-// A region's byte, and the last leaf of the latest taken region.
-#[derive(Clone, Copy)]
-struct Step {
-    byte: u8,
-    until: Leaf,
-}
-
-// Takes the k-th region if its total is over its z and it begins after the latest taken region.
-fn take(file: &[u8], k: u16, total: u16, until: Leaf) -> Step
-    ensures { TakeDecided (family_of file.now) k total until.0 result }
+// Whether a region is taken: it begins after the latest taken one, and its inside total is over its z.
+fn is_taken(region: Region, total: u16, until: Leaf) -> bool
+    ensures { result ≡ takes_region (held region) total until.0 }
 {
-    let r = region_of(file, k);
-    let first = r.first.0;
-    let last = r.last;
-    let covered = until.0;
-    if first <= covered {
-        return Step { byte: 0, until };
-    }
-    let z = r.z;
-    if z < total {
-        return Step {
-            byte: 1,
-            until: last,
-        };
-    }
-    Step { byte: 0, until }
+    until.0 < region.first.0 && region.z < total
 }
 
 // Writes the taken bytes from the inside totals.
 pub(crate) fn write_taken(file: &[u8], totals: &[u16], taken: &mut [u8])
-    requires { (region_count (family_of file.now) ≤ length totals.now) × (region_count (family_of file.now) ≤ length taken.old) }
+    requires totals_room { region_count (family_of file.now) ≤ length totals.now }
+    requires taken_room { region_count (family_of file.now) ≤ length taken.old }
     ensures { taken.new ≡ taken_along (family_of file.now) totals.now ++ drop (region_count (family_of file.now)) taken.old }
 {
-    let regions = region_count(file);
     let mut until = Leaf(0);
-    let mut k = 0;
-    while k < regions {
-        let step = take(file, k, totals[k as usize], until);
-        taken[k as usize] = step.byte;
-        let latest = step.until;
-        until = latest;
-        k += 1;
+    for k in 0..region_count(file) {
+        let region = region_of(file, k);
+        let is_new = is_taken(region, totals[k as usize], until);
+        taken[k as usize] = is_new as u8;
+        if is_new {
+            until = region.last;
+        }
     }
 }
 

@@ -10,7 +10,10 @@ use borrow.Author.Tests.{eqb-false, ltb-false, le-ltb, ne_eqb, eq-eqb}
 use Rattle.reader.specs.Lists.{tabulate}
 use Rattle.reader.specs.Family.{Family, family_of}
 use Rattle.reader.specs.Causes.{Cause, first_cause, Accepted}
-use Rattle.reader.specs.Calls.{Report, short}
+use Rattle.reader.specs.Refusals.{number_of, beside, Report}
+use Rattle.reader.specs.Calls.{short}
+use Rattle.reader.specs.declared.refusal.Refusal.{Refusal}
+use Rattle.reader.proofs.Refusals.{number_some, nothing_beside}
 use Rattle.reader.proofs.First.{join_clear, join_holds, writes, leaves_unchanged}
 use Rattle.reader.proofs.Bools.{or_fails_l, clash, not_passes, not_fails}
 use Rattle.reader.proofs.Lists.{length_tabulate, tabulate_same}
@@ -101,13 +104,14 @@ module _ (file path ps : List ℕ) (level : ℕ) (values : List ℕ) where
       (λ z. some (sym (join_holds (input_causes file path) (hybrid_inputs file path ps level (length values)) some) ∙ z))
 
   -- what is tried after the family and the path holds
-  pub hybrid_declines : (n : ℕ) → first_cause (input_causes file path) ≡ 0 → n ≡ first_cause (hybrid_inputs file path ps level (length values)) → (n ≡ 0 → ⊥)
-      → HybridDone (record { number = n; values = [] }) values true
+  pub hybrid_declines : (e : Refusal) → first_cause (input_causes file path) ≡ 0 → number_of e ≡ first_cause (hybrid_inputs file path ps level (length values))
+      → HybridDone (record { number = number_of e; values = beside e }) values true
   unfolding hybrid_causes
-  hybrid_declines n clear e some =
+  hybrid_declines e clear h =
+      let other : number_of e ≡ 13 → ⊥ = λ z. hybrid_not_13 file path ps level (length values) (sym h ∙ z) in
       hybrid_stops _
-      (late_refused file path _ [] n clear e some (λ z. hybrid_not_13 file path ps level (length values) (sym e ∙ z)))
-      (λ z. some (e ∙ sym (hybrid_first file path ps level (length values) clear) ∙ z))
+      (ap (λ (l : List ℕ). record { number = number_of e; values = l }) (nothing_beside e other) ∙ late_refused file path _ [] (number_of e) clear h (number_some e) other)
+      (λ z. number_some e (h ∙ sym (hybrid_first file path ps level (length values) clear) ∙ z))
 
   -- no cause holds, and the smaller of a list and of the Simes bound is written, where the list has the region curve
   pub hybrid_writes : (m : ℕ) (curve new : List ℕ) → first_cause (input_causes file path) ≡ 0 → first_cause (hybrid_inputs file path ps level (length values)) ≡ 0

@@ -22,9 +22,8 @@ use Rattle.reader.proofs.Accepting.{well_formed_lem}
 use Rattle.bounds.specs.Ranges.{Peptides, card}
 use Rattle.bounds.specs.Bound.{Admissible}
 use Rattle.bounds.specs.Curves.{among, entry}
-use Rattle.bounds.specs.Calls.{declined_curve}
-use Rattle.bounds.specs.declared.Curved.{Curved}
-use Rattle.bounds.specs.declared.Curved.TheVariants as curved
+use Rattle.std.specs.Prelude.{Result, Ok, Err}
+use Rattle.reader.specs.declared.refusal.Refusal.{Refusal}
 use Rattle.bounds.specs.AcceptedCalls.{CurveCall}
 use Rattle.bounds.proofs.Basics.Members.{le_or_lt, bit_few}
 use Rattle.bounds.proofs.Basics.Counting.{Subset, SameSet, adding, adding_old}
@@ -47,7 +46,7 @@ simes_of f c t = simes (peptides_in f) c.p_values c.level (among (take t c.path)
 pub record HybridCurve : Type 0 where
   -- For an accepted family, a path, a p-value for each peptide, a level and a list with room, `hybrid` declines nothing, and what the
   -- list holds beyond value T stays as it was.
-  pub answered : (f : AcceptedFile) (c : HybridCall f) → c.answer ≡ curved.Written
+  pub answered : (f : AcceptedFile) (c : HybridCall f) → c.answer ≡ Ok (tt {0})
   pub rest : (f : AcceptedFile) (c : HybridCall f) → drop (length c.path + 1) c.new ≡ drop (length c.path + 1) c.old
   -- Value t, as written, is the smaller of the region bound and the Simes bound of the first t peptides, for every t from 0 to T.
   pub value : (f : AcceptedFile) (c : HybridCall f) (t : ℕ) → t ≤ length c.path
@@ -129,14 +128,12 @@ module _ (f : AcceptedFile) (c : HybridCall f) where
   clear : first_cause (hybrid_causes f.file path c.p_values c.level (length c.old)) ≡ 0
   clear = hybrid_clear f.file path c.p_values c.level (length c.old) f.accepted c.is_path c.room c.counted c.small c.allowed
 
-  answers_written : c.answer ≡ curved.Written
-  unfolding declined_curve
+  answers_written : c.answer ≡ Ok (tt {0})
   answers_written = go c.answer c.declines
     where
-      go : (r : Curved) → HybridDeclines f.file path c.p_values c.level c.old r → r ≡ curved.Written
-      go curved.Written d = refl
-      go (curved.Refused n) d = absurd (clash (sym d) (not_fails _ (eq-eqb _ 0 clear)))
-      go (curved.Repeated p) d = absurd (clash (sym d) (not_fails _ (eq-eqb _ 0 clear)))
+      go : (r : Result (Unit {0}) Refusal) → HybridDeclines f.file path c.p_values c.level c.old r → r ≡ Ok (tt {0})
+      go (Ok done) d = refl
+      go (Err refusal) d = absurd (clash (sym d) (not_fails _ (eq-eqb _ 0 clear)))
 
   abbrev entries : List ℕ
   entries = hybrid_values F c.p_values c.level path

@@ -1,10 +1,11 @@
 -- What `hybrid` answers and writes, defined from its inputs.
-use Rattle.std.specs.Prelude.{ℕ, ◌+◌, not, List, [], ◌∷◌, ◌++◌, ◌≡◌, length, eqb}
+use Rattle.std.specs.Prelude.{ℕ, ◌+◌, not, List, [], ◌∷◌, ◌++◌, ◌≡◌, length, eqb, Result, is_err}
 use Rattle.reader.specs.Family.{family_of}
 use Rattle.reader.specs.Causes.{Cause, first_cause}
+use Rattle.reader.specs.Refusals.{report}
 use Rattle.reader.specs.Calls.{written, short}
-use Rattle.bounds.specs.Calls.{input_causes, path_answer, report_curve, declined_curve}
-use Rattle.bounds.specs.declared.Curved.{Curved}
+use Rattle.reader.specs.declared.refusal.Refusal.{Refusal}
+use Rattle.bounds.specs.Calls.{input_causes, path_answer, no_values}
 use Rattle.pvalues.specs.Calls.{room_and_p_values}
 use Rattle.hybrid.specs.Hybrid.{hybrid_values, cause23}
 
@@ -22,13 +23,13 @@ hybrid_causes file path ps level room = input_causes file path ++ hybrid_inputs 
 -- in it.
 
 -- the answer r of `hybrid`, and its values
-abbrev pub HybridAnswers : List ℕ → List ℕ → List ℕ → ℕ → List ℕ → Curved → Type 0
-HybridAnswers file path ps level values r = report_curve r ≡ path_answer (hybrid_causes file path ps level (length values)) path []
+abbrev pub HybridAnswers : List ℕ → List ℕ → List ℕ → ℕ → List ℕ → Result (Unit {0}) Refusal → Type 0
+HybridAnswers file path ps level values r = report no_values r ≡ path_answer (hybrid_causes file path ps level (length values)) path []
 
 abbrev pub HybridWrites : List ℕ → List ℕ → List ℕ → ℕ → List ℕ → List ℕ → Type 0
 HybridWrites file path ps level values new =
     new ≡ written (hybrid_causes file path ps level (length values)) (hybrid_values (family_of file) ps level path) values
 
 -- the answer of `hybrid` is a refusal exactly if a cause holds
-abbrev pub HybridDeclines : List ℕ → List ℕ → List ℕ → ℕ → List ℕ → Curved → Type 0
-HybridDeclines file path ps level values r = declined_curve r ≡ not (eqb (first_cause (hybrid_causes file path ps level (length values))) 0)
+abbrev pub HybridDeclines : List ℕ → List ℕ → List ℕ → ℕ → List ℕ → Result (Unit {0}) Refusal → Type 0
+HybridDeclines file path ps level values r = is_err r ≡ not (eqb (first_cause (hybrid_causes file path ps level (length values))) 0)

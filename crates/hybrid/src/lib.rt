@@ -7,38 +7,36 @@ mod slots;
 
 ghost use Rattle.hybrid.specs.Calls.{HybridAnswers, HybridWrites, HybridDeclines};
 
-use bounds::Curved;
-use inputs::hybrid_cause;
+use inputs::check_inputs;
 use reader::family::peptide_count;
+use reader::refusal::Refusal;
 use simes::write_smaller;
 
 // The hybrid curve along a path: entry t is the smaller of the region bound and the Simes bound of the first t peptides. The p-values
 // are whole millionths, the first that of peptide 1, and so is the level of the Simes bound. The entries are written from the start of
 // the lent slice, without marks; a declined call leaves it unchanged.
-pub fn hybrid(file: &[u8], path: &[u16], p_values: &[u32], level: u32, values: &mut [u16]) -> Curved
+pub fn hybrid(
+    file: &[u8],
+    path: &[u16],
+    p_values: &[u32],
+    level: u32,
+    values: &mut [u16],
+) -> Result<(), Refusal>
     ensures hybrid_answers { HybridAnswers file.now path.now p_values.now level values.old result }
     ensures hybrid_writes { HybridWrites file.now path.now p_values.now level values.old values.new }
     ensures hybrid_declines { HybridDeclines file.now path.now p_values.now level values.old result }
 {
     let mut region_curve = [0u16; 4097];
     let mut marks = [0u8; 4096];
-    match bounds::curve(file, path, &mut region_curve, &mut marks) {
-        Curved::Written => {
-            let number = hybrid_cause(file, path, p_values, level, values.len());
-            if number != 0 {
-                return Curved::Refused(number);
-            }
-            write_smaller(
-                peptide_count(file),
-                path,
-                p_values,
-                level,
-                &region_curve,
-                values,
-            );
-            Curved::Written
-        }
-        Curved::Refused(number) => Curved::Refused(number),
-        Curved::Repeated(place) => Curved::Repeated(place),
-    }
+    bounds::curve(file, path, &mut region_curve, &mut marks)?;
+    check_inputs(file, path, p_values, level, values.len())?;
+    write_smaller(
+        peptide_count(file),
+        path,
+        p_values,
+        level,
+        &region_curve,
+        values,
+    );
+    Ok(())
 }

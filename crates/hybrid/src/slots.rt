@@ -20,16 +20,16 @@ fn last_free(slots: &mut [u16; 4097], last: u16) -> u16
     slot
 }
 
-// Takes the last free slot up to a number: 1, or 0 if only slot 0 is free there.
-pub(crate) fn take_slot(slots: &mut [u16; 4097], last: u16) -> u16
+// Takes the last free slot up to a number: false if only slot 0, which is never taken, is free there.
+pub(crate) fn take_slot(slots: &mut [u16; 4097], last: u16) -> bool
     requires slots { Slots slots.old }
     requires last_bound { last < 4097 }
     ensures { Taken slots.old last slots.new result }
 {
     let slot = last_free(slots, last);
     if slot == 0 {
-        return 0;
+        return false;
     }
     slots[slot as usize] = slot - 1;
-    1
+    true
 }

@@ -1,11 +1,16 @@
 -- The walk along the leaf lengths: leaves passed at once, the lengths in a file, capped sums, and leaves counted.
-use Rattle.std.proofs.Common.{◌≡◌, ℕ, zero, suc, ◌+◌, ◌-◌, ◌*◌, ◌<◌, ◌≤◌, Bool, cond, ltb, ◌⊎◌, List, length, get_or, drop, sym, refl, ap, ◌∙◌, ap₂, inl, inr, ⊎_elim, add-one, arith, drop_of_length-le, ltb-false, ltb-true, le-ltb}
+use Rattle.std.proofs.Common.{◌≡◌, ℕ, zero, suc, ◌+◌, ◌-◌, ◌*◌, ◌/◌, ◌<◌, ◌≤◌, Bool, true, false, ltb, ◌⊎◌, List, length, get_or, set, drop, sum, min, sym, refl, ap, ◌∙◌, ap₂, inl, inr, ⊎_elim, add-one, arith, drop_of_length-le, ltb-false, ltb-true, le-ltb}
+use Rattle.std.specs.Int.{from_bool}
+use Rattle.std.proofs.Math.Nat.{mul-le-mul_left}
+use Rattle.std.proofs.Math.ListN.{length-set}
+use Rattle.std.proofs.Math.Seq.{get_or-set_same}
+use Rattle.std.proofs.lemmas.List.Sums.{sum_by-set, get_or-le-sum_by}
 use Rattle.reader.specs.Bytes.{number_at}
-use Rattle.reader.specs.Family.{Family, family_of, leaves, leaf_after, peptides_up_to}
+use Rattle.reader.specs.Family.{Family, family_of, leaves, leaf_after, leaf_of, peptides_up_to}
 use Rattle.reader.proofs.Bools.{test}
 use Rattle.reader.proofs.Parsed.{leaves_read, length_number}
-use Rattle.reader.proofs.Walk.{walk_stops, walk_goes_on, up_to_next}
-use Rattle.leaves.specs.Private.Walking.{added, Capped, FoundAfter, CountedTo}
+use Rattle.reader.proofs.Walk.{walk_starts, walk_stops, walk_goes_on, up_to_next}
+use Rattle.leaves.specs.Private.Walking.{added, Capped, Walked, FoundAfter, CountedTo}
 
 module _ (F : Family) where
   pub walk_ends : (j p : ℕ) → leaves F ≤ j → leaf_after j (drop j F.lengths) p ≡ 0
@@ -26,6 +31,11 @@ module _ (F : Family) where
       walk_passes n j p (q + length) (omega arith) (omega (arith, e, sums)) (omega arith)
       ∙ walk_goes_on F (j + n) (q + length) (omega arith) (omega arith)
       ∙ ap₂ (λ (i x : ℕ). leaf_after i (drop i F.lengths) x) next (omega arith)
+
+-- where two walks one after the other have come, the leaf of the peptide is to be found
+pub walk_found : (s t u : List ℕ) {m n p i q j r a : ℕ} → t ≡ s → u ≡ t → Walked s m 0 p i q → Walked t n i q j r
+    → FoundAfter (family_of u) j r a → a ≡ leaf_of (family_of s) p
+walk_found s t u {p = p} e f w v h = (rw (f, e) at h) ∙ sym (walk_starts (family_of s) p ∙ w.same ∙ (rw e at v.same))
 
 -- The lengths in a file.
 module _ (s : List ℕ) where
@@ -61,13 +71,9 @@ module _ (s : List ℕ) where
   unfolding added
   added_next at n = rw (add-one n) refl
 
-  pub added_eight :
-      (at : ℕ)
-      → added s at 8
-      ≡ number_at s at + number_at s (at + 2) + number_at s (at + 4) + number_at s (at + 6)
-      + number_at s (at + 8) + number_at s (at + 10) + number_at s (at + 12) + number_at s (at + 14)
+  pub added_none : (at : ℕ) → added s at 0 ≡ 0
   unfolding added
-  added_eight at = let first : at + 2 * 0 ≡ at = omega arith in omega (arith, ap (number_at s) first)
+  added_none at = refl
 
   -- one row of eight more
   pub row_more : (at row : ℕ) → added s at (8 * (row + 1)) ≡ added s at (8 * row) + added s (at + 16 * row) 8
@@ -81,12 +87,19 @@ module _ (s : List ℕ) where
 pub capped_as : {S T L R : ℕ} → S ≡ T → L ≡ R → Capped S L → Capped T R
 capped_as e d h = record { most = omega (arith, h.most); exact = λ small. omega (arith, h.exact (omega arith)) }
 
-pub capped_both : {S T L R : ℕ} → Capped S L → Capped T R → Capped (S + T) (L + R)
-capped_both one other =
-    record {
-      most = omega (arith, one.most, other.most);
-      exact = λ small. omega (arith, one.exact (omega arith), other.exact (omega arith));
-    }
+pub capped_same : (S : ℕ) → Capped S S
+capped_same S = record { most = omega arith; exact = λ _. refl }
+
+-- one of the lanes takes a number, and stays at 65,535 where it would pass it
+pub capped_lane : (lanes : List ℕ) (i x : ℕ) → i < length lanes
+    → Capped (sum lanes + x) (sum (set lanes i (min (get_or lanes i 0 + x) 65535)))
+capped_lane lanes i x l =
+    let v : ℕ = min (get_or lanes i 0 + x) 65535 in
+    let e : sum (set lanes i v) + get_or lanes i 0 ≡ sum lanes + v = sum_by-set (λ n. n) lanes i v 0 l in
+    let here : get_or (set lanes i v) i 0 ≡ v = get_or-set_same lanes i v 0 l in
+    let whole : v ≤ sum (set lanes i v) =
+    omega (arith, here, get_or-le-sum_by (λ n. n) (set lanes i v) i 0 (omega (arith, length-set lanes i v))) in
+    record { most = omega arith; exact = λ small. omega arith }
 
 -- to a capped sum L of S the number X is added
 pub capped_more : {S L R : ℕ} (X : ℕ) → Capped S L → Capped (L + X) R → Capped (S + X) R
@@ -95,6 +108,18 @@ capped_more X before here =
       most = omega (arith, before.most, here.most);
       exact = λ small. let sum = here.exact small in omega (arith, sum, before.exact (omega (arith, sum)));
     }
+
+-- Blocks of w leaves, among x that are ahead.
+
+pub blocks_ahead : (w x b : ℕ) → 1 ≤ w → b < x / w → w * (b + 1) ≤ x
+blocks_ahead w x b some l = omega (arith, mul-le-mul_left w l)
+
+pub blocks_passed : (w x b : ℕ) → 1 ≤ w → x / w ≤ b → x < w * (b + 1)
+blocks_passed w x b some l = omega (arith, mul-le-mul_left w l)
+
+pub bool_few : (b : Bool) → from_bool b ≤ 1
+bool_few true = omega arith
+bool_few false = omega arith
 
 -- Counting the leaves up to which the lengths add to less than p.
 module _ (s : List ℕ) (j p : ℕ) where
@@ -132,22 +157,22 @@ module _ (s : List ℕ) (j p : ℕ) where
       (test (ltb 0 p))
 
   pub counted_more :
-      (i count one : ℕ) → j + i < number_at s 6 → one ≡ cond (ltb (lengths (i + 1)) p) 1 0 → CountedTo F j p i (lengths i) count
+      (i count one : ℕ) → j + i < number_at s 6 → one ≡ from_bool (ltb (lengths (i + 1)) p) → CountedTo F j p i (lengths i) count
       → CountedTo F j p (i + 1) (lengths (i + 1)) (count + one)
   counted_more i count one l o (inl (less, all)) =
       ⊎_elim
       (λ t.
-      let counted : one ≡ 1 = o ∙ ap (λ (b : Bool). cond b 1 0) t in
+      let counted : one ≡ 1 = o ∙ ap from_bool t in
       inl (inl (ltb-true (lengths (i + 1)) p t), omega (arith, counted, all)))
       (λ f.
       let over = ltb-false (lengths (i + 1)) p f in
-      let none : one ≡ 0 = o ∙ ap (λ (b : Bool). cond b 1 0) f in
+      let none : one ≡ 0 = o ∙ ap from_bool f in
       let same : j + (count + one) + 1 ≡ j + i + 1 = omega (arith, none, all) in
       inr (over, omega (arith, none, all), same ∙ reached_first i l less over))
       (test (ltb (lengths (i + 1)) p))
   counted_more i count one l o (inr (over, few, found)) =
       let more : p ≤ lengths (i + 1) = omega (arith, over, added_next s (16 + 2 * j) i) in
-      let none : one ≡ 0 = o ∙ ap (λ (b : Bool). cond b 1 0) (le-ltb (lengths (i + 1)) p more) in
+      let none : one ≡ 0 = o ∙ ap from_bool (le-ltb (lengths (i + 1)) p more) in
       let same : j + (count + one) + 1 ≡ j + count + 1 = omega (arith, none) in
       inr (more, omega (arith, none, few), same ∙ found)
 

@@ -20,12 +20,13 @@ use Rattle.reader.proofs.First.{answers, writes}
 use Rattle.reader.proofs.Accepting.{well_formed_lem}
 use Rattle.reader.proofs.Judged.{from_peptides_counted, from_leaves_counted, from_regions_counted}
 use Rattle.reader.proofs.Files.{well_formed_fits, file_bytes, file_accepted, read_back, accepted_written_back}
+use Rattle.std.specs.Prelude.{Result, Ok, Err}
+use Rattle.reader.specs.declared.refusal.Refusal.{Refusal}
+use Rattle.reader.proofs.Refusals.{number_some}
 use Rattle.levels.specs.Levels.{level_of, by_level, level_counts, in_file_order, level_mark, level_file, level_file_of, listed_family, counts_in, family_file_of}
 use Rattle.levels.specs.Causes.{AcceptedLevels, AcceptedLevelFile}
 use Rattle.levels.specs.Calls.{report_converted, to_levels_causes, from_levels_causes}
 use Rattle.levels.specs.AcceptedCalls.{ToLevelsCall, written_by_level, FromLevelsCall, written_as_family, Rearranged}
-use Rattle.levels.specs.declared.Converted.{Converted}
-use Rattle.levels.specs.declared.Converted.TheVariants.{Written, Refused}
 use Rattle.levels.specs.Private.Listing.{Headed}
 use Rattle.sorting.proofs.Those.{those_few}
 use Rattle.levels.proofs.Theory.Rearranged.{same_in, members, at_member, file_order_same, file_order_count}
@@ -36,7 +37,7 @@ use Rattle.levels.proofs.Calls.LevelCauses.{LevelsClear, levels_clear, levels_no
 
 pub record ByLevel : Type 0 where
   -- `to_levels` answers the given length plus 128, and leaves the bytes beyond the file that it writes as they were.
-  pub to_answered : (f : AcceptedFile) (c : ToLevelsCall f) → c.answer ≡ Written (length f.file + 128)
+  pub to_answered : (f : AcceptedFile) (c : ToLevelsCall f) → c.answer ≡ Ok (length f.file + 128)
   pub to_rest : (f : AcceptedFile) (c : ToLevelsCall f) → drop (length f.file + 128) c.new ≡ drop (length f.file + 128) c.old
   -- What it writes has that length, and is an accepted file by level.
   pub to_long : (f : AcceptedFile) (c : ToLevelsCall f) → length (written_by_level f c) ≡ length f.file + 128
@@ -47,7 +48,7 @@ pub record ByLevel : Type 0 where
   pub to_back : (f : AcceptedFile) (c : ToLevelsCall f) → family_file_of (written_by_level f c) ≡ f.file
   pub to_and_from : (f : AcceptedFile) (c : ToLevelsCall f) (g : AcceptedLevelFile) (d : FromLevelsCall g) → g.file ≡ written_by_level f c → written_as_family g d ≡ f.file
   -- `from_levels` answers the given length less 128, and leaves the bytes beyond the file that it writes as they were.
-  pub from_answered : (f : AcceptedLevelFile) (c : FromLevelsCall f) → c.answer ≡ Written (length f.file - 128)
+  pub from_answered : (f : AcceptedLevelFile) (c : FromLevelsCall f) → c.answer ≡ Ok (length f.file - 128)
   pub from_rest : (f : AcceptedLevelFile) (c : FromLevelsCall f) → drop (length f.file - 128) c.new ≡ drop (length f.file - 128) c.old
   -- What it writes is 128 bytes shorter than the given file, and is an accepted family file: one of those that the demands speak of.
   pub from_long : (f : AcceptedLevelFile) (c : FromLevelsCall f) → length (written_as_family f c) + 128 ≡ length f.file
@@ -63,13 +64,9 @@ pub record ByLevel : Type 0 where
 
 -- The answer of a call that writes.
 
-answer_known : (r : Converted) (n : ℕ) → report_converted r ≡ record { number = 0; values = n ∷ [] } → r ≡ Written n
-unfolding report_converted
-answer_known (Written m) n e = ap Written (ap (λ (t : Report). get_or t.values 0 0) e)
-answer_known (Refused m) n e = absurd (no_values (ap (λ (t : Report). length t.values) e))
-  where
-    no_values : ◌≡◌ {A = ℕ} 0 1 → ⊥
-    no_values e = omega arith
+answer_known : (r : Result ℕ Refusal) (n : ℕ) → report_converted r ≡ record { number = 0; values = n ∷ [] } → r ≡ Ok n
+answer_known (Ok m) n e = ap Ok (ap (λ (t : Report). get_or t.values 0 0) e)
+answer_known (Err refusal) n e = absurd (number_some refusal (ap (λ (t : Report). t.number) e))
 
 -- What is at the start of a list, and the rest.
 
@@ -188,11 +185,11 @@ module _ (f : AcceptedFile) (c : ToLevelsCall f) where
   unfolding written_by_level
   to_file = start_is (level_file_of F) c.old c.new (length f.file + 128) to_length_is to_written
 
-  to_answer : c.answer ≡ Written (length f.file + 128)
+  to_answer : c.answer ≡ Ok (length f.file + 128)
   to_answer =
       answer_known c.answer (length (level_file_of F))
       (c.answers ∙ answers (to_levels_causes f.file (length c.old)) to_clear (length (level_file_of F) ∷ []))
-      ∙ ap Written to_length_is
+      ∙ ap Ok to_length_is
 
 -- What an accepted file by level lists.
 
@@ -265,11 +262,11 @@ module _ (f : AcceptedLevelFile) (c : FromLevelsCall f) where
   unfolding written_as_family
   from_file = start_is (family_file_of f.file) c.old c.new (length f.file - 128) from_length_is from_written
 
-  from_answer : c.answer ≡ Written (length f.file - 128)
+  from_answer : c.answer ≡ Ok (length f.file - 128)
   from_answer =
       answer_known c.answer (length (family_file_of f.file))
       (c.answers ∙ answers (from_levels_causes f.file (length c.old)) from_clear (length (family_file_of f.file) ∷ []))
-      ∙ ap Written from_length_is
+      ∙ ap Ok from_length_is
 
 pub by_level_lem : ByLevel
 by_level_lem =

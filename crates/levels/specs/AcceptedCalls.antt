@@ -1,12 +1,12 @@
 -- Calls of `to_levels` and of `from_levels` that have nothing to decline, of which the theorem speaks: an accepted file, and room for
 -- what is written. And what the two files of such a call have in common.
-use Rattle.std.specs.Prelude.{ℕ, ◌+◌, ◌-◌, ◌≤◌, Bool, List, ◌≡◌, length, take}
+use Rattle.std.specs.Prelude.{ℕ, ◌+◌, ◌-◌, ◌≤◌, Bool, List, ◌≡◌, length, take, Result}
 use Rattle.reader.specs.Lists.{those}
 use Rattle.reader.specs.Family.{Region, Family}
 use Rattle.reader.specs.Causes.{AcceptedFile}
 use Rattle.levels.specs.Causes.{AcceptedLevelFile}
 use Rattle.levels.specs.Calls.{ToLevelsAnswers, ToLevelsWrites, FromLevelsAnswers, FromLevelsWrites}
-use Rattle.levels.specs.declared.Converted.{Converted}
+use Rattle.reader.specs.declared.refusal.Refusal.{Refusal}
 
 -- a call of `to_levels`
 pub record ToLevelsCall (f : AcceptedFile) : Type 0 where
@@ -14,7 +14,7 @@ pub record ToLevelsCall (f : AcceptedFile) : Type 0 where
   pub old : List ℕ
   pub room : length f.file + 128 ≤ length old
   -- its answer and the lent list after it, with its promises
-  pub answer : Converted
+  pub answer : Result ℕ Refusal
   pub new : List ℕ
   pub answers : ToLevelsAnswers f.file old answer
   pub writes : ToLevelsWrites f.file old new
@@ -29,7 +29,7 @@ pub record FromLevelsCall (f : AcceptedLevelFile) : Type 0 where
   pub old : List ℕ
   pub room : length f.file - 128 ≤ length old
   -- its answer and the lent list after it, with its promises
-  pub answer : Converted
+  pub answer : Result ℕ Refusal
   pub new : List ℕ
   pub answers : FromLevelsAnswers f.file old answer
   pub writes : FromLevelsWrites f.file old new

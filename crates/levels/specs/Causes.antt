@@ -4,7 +4,7 @@ use Rattle.std.specs.Prelude.{ℕ, suc, ◌+◌, ◌-◌, Bool, not, ◌&&◌, �
 use Rattle.reader.specs.Lists.{sum, some_below}
 use Rattle.reader.specs.Bytes.{IsBytes}
 use Rattle.reader.specs.Family.{Region, Family, region_count, region}
-use Rattle.reader.specs.Causes.{cause1, cause9, cause10, layout_causes, listing_causes, Cause, first_cause}
+use Rattle.reader.specs.Causes.{cause9, cause10, marked_causes, listing_causes, Cause, first_cause}
 use Rattle.levels.specs.Levels.{level_of, level_mark, level_lengths_offset, listed_family, counts_in, distinct}
 
 -- level counts not adding to K
@@ -32,7 +32,7 @@ cause27 counts F = repeated F || some_below 64 (λ h. some_below (get_or counts 
 
 -- what the header says
 unfoldable pub level_header_causes : List ℕ → List Cause
-level_header_causes s = record { number = 1; holds = cause1 level_mark s } ∷ layout_causes level_lengths_offset s
+level_header_causes s = marked_causes level_mark level_lengths_offset s
 
 -- how the regions lie to each other, where one with the same leaves as an earlier one is left out
 unfoldable pub nesting_causes : Family → List Cause

@@ -2,10 +2,11 @@
 // its parent.
 ghost use Rattle.std.specs.Prelude.{◌≡◌, ℕ, ◌<◌, ◌≤◌, length, get_or};
 ghost use Rattle.reader.specs.Family.{family_of, region_count};
+ghost use Rattle.reader.specs.Refusals.{verdict};
 ghost use Rattle.levels.specs.Private.Leveling.{one_deeper, LevelsBelow, Parented, Leveled};
 
-use reader::Checked;
 use reader::family::region_count;
+use reader::refusal::Refusal;
 
 // One more than the level of the region of that number; 1 for none.
 fn one_deeper(levels: &[u16], number: u16) -> u16
@@ -25,29 +26,16 @@ fn fill_levels(file: &[u8], levels: &mut [u16])
     requires { Parented (family_of file.now) levels.old }
     ensures { LevelsBelow (family_of file.now) levels.new (region_count (family_of file.now)) }
 {
-    let regions = region_count(file) as usize;
-    let mut k = 0;
-    while k < regions {
-        let parent = levels[k];
-        levels[k] = one_deeper(levels, parent);
-        k += 1;
+    for k in 0..region_count(file) as usize {
+        levels[k] = one_deeper(levels, levels[k]);
     }
 }
 
-// The first of the causes 1 to 10 that holds, or 0 with the levels written.
-pub(crate) fn find_levels(file: &[u8], levels: &mut [u16]) -> u16
-    requires { 8191 ≤ length levels.old }
-    ensures { Leveled file.now levels.new result }
+// Writes the levels of a family file's regions, or declines by the first of the causes 1 to 10 that holds.
+pub(crate) fn find_levels(file: &[u8], levels: &mut [u16; 8191]) -> Result<(), Refusal>
+    ensures { Leveled file.now levels.new (verdict result) }
 {
-    match reader::parents(file, levels) {
-        Checked::Family {
-            peptides: _,
-            leaves: _,
-            regions: _,
-        } => {
-            fill_levels(file, levels);
-            0
-        }
-        Checked::Refused(number) => number,
-    }
+    reader::parents(file, levels)?;
+    fill_levels(file, levels);
+    Ok(())
 }

@@ -1,131 +1,128 @@
 -- What the calls of the libraries answer, told from the report of the answer.
-use Prim.Native.Nat.{ℕ}
-use mathlib.Core.Bool.{Bool, true, false, not, cond}
+--   told_again      a refusal is made again of its number and of what is beside it
+--   plain_again     the same where nothing is beside it
+--   pair_again      the same of two families
+use Prim.Native.Nat.{ℕ, ◌+◌, ◌-◌}
+use native.Mathlib.Omega.{arith}
+use mathlib.Core.Bool.{true, false, cond}
 use mathlib.Core.List.{List, [], ◌∷◌}
 use mathlib.Core.Logic.{⊎_elim}
-use mathlib.Core.Path.{◌≡◌, refl, sym, ap, ◌∙◌}
-use lib.ListN.{get_or}
-use lib.Dec.{eqb}
-use borrow.Author.Tests.{ne_eqb, not-true}
-use Rattle.reader.specs.Causes.{Cause, first_cause}
-use Rattle.reader.specs.Calls.{Report, report}
-use Rattle.reader.specs.declared.Checked.{Checked}
-use Rattle.reader.specs.declared.Checked.TheVariants as told
+use mathlib.Core.Path.{◌≡◌, refl, ap, ◌∙◌}
+use lib.ListN.{length, get_or}
+use lib.Dec.{eqb, ltb}
+use borrow.Author.Tests.{eqb-true, le-ltb}
+use Rattle.reader.specs.declared.refusal.Refusal.{Refusal}
+use Rattle.reader.specs.declared.refusal.Refusal.TheVariants.{Mark, PeptideCount, LeafCount, RegionCount, Layout, LeafLengths, Misplaced, Misordered, Crossing, TooDeep, PathLength, OffTheLine, Repeated, Selection, Fraction, Room, RowCount, Row, Rule, PValueCount, PValue, Deviation, Level, ListLength, Tally, LevelCounts, Levels}
+use Rattle.reader.specs.Refusals.{number_of, beside}
 use Rattle.reader.proofs.Bools.{test}
-use Rattle.bounds.specs.Curves.{first_repeat}
-use Rattle.bounds.specs.Calls.{report_bound, report_curve, declined_curve, report_cut, path_refusal, path_answer}
-use Rattle.bounds.specs.declared.Bounded.{Bounded}
-use Rattle.bounds.specs.declared.Bounded.TheVariants as bounded
-use Rattle.bounds.specs.declared.Curved.{Curved}
-use Rattle.bounds.specs.declared.Curved.TheVariants as curved
-use Rattle.bounds.specs.declared.CutFound.{CutFound}
-use Rattle.bounds.specs.declared.CutFound.TheVariants as cutFound
-use Rattle.reduction.specs.Calls.{report_reduced, report_compared}
-use Rattle.reduction.specs.declared.ReducedFile.{ReducedFile}
-use Rattle.reduction.specs.declared.ReducedFile.TheVariants as made
-use Rattle.reduction.specs.declared.Compared.{Compared}
-use Rattle.reduction.specs.declared.Compared.TheVariants as compared
-use Rattle.levels.specs.Calls.{report_converted}
-use Rattle.levels.specs.declared.Converted.{Converted}
-use Rattle.levels.specs.declared.Converted.TheVariants as converted
-use Rattle.bounds.proofs.Calls.Answering.{path_number}
+use Rattle.reader.proofs.Refusals.{number_some}
+use Rattle.reduction.specs.declared.PairRefusal.{PairRefusal}
+use Rattle.reduction.specs.declared.PairRefusal.TheVariants.{First, Second}
+use Rattle.reduction.specs.Calls.{pair_number, pair_beside}
+use Rattle.phf.specs.Obeys.{refusal_of, pair_refusal_of}
 
--- An answer without a place is made again of its number and its values.
+-- a refusal with number 13 has a place beside it
+place_there : (e : Refusal) → number_of e ≡ 13 → beside e ≡ [] → ⊥
+place_there Mark h none = omega arith
+place_there PeptideCount h none = omega arith
+place_there LeafCount h none = omega arith
+place_there RegionCount h none = omega arith
+place_there Layout h none = omega arith
+place_there LeafLengths h none = omega arith
+place_there Misplaced h none = omega arith
+place_there Misordered h none = omega arith
+place_there Crossing h none = omega arith
+place_there TooDeep h none = omega arith
+place_there PathLength h none = omega arith
+place_there OffTheLine h none = omega arith
+place_there (Repeated place) h none = omega (arith, ap length none)
+place_there Selection h none = omega arith
+place_there Fraction h none = omega arith
+place_there Room h none = omega arith
+place_there RowCount h none = omega arith
+place_there Row h none = omega arith
+place_there Rule h none = omega arith
+place_there PValueCount h none = omega arith
+place_there PValue h none = omega arith
+place_there Deviation h none = omega arith
+place_there Level h none = omega arith
+place_there ListLength h none = omega arith
+place_there Tally h none = omega arith
+place_there LevelCounts h none = omega arith
+place_there Levels h none = omega arith
 
-unfoldable pub checked_of : ℕ → List ℕ → Checked
-checked_of n [] = told.Refused n
-checked_of n (m ∷ vs) = told.Family m (get_or vs 0 0) (get_or vs 1 0)
+-- a refusal with this place beside it if its number is 13, else with nothing
+pub told_again : (place : ℕ) (e : Refusal) → beside e ≡ cond (eqb (number_of e) 13) (place ∷ []) [] → e ≡ refusal_of place (number_of e)
+unfolding refusal_of
+told_again place Mark h = refl
+told_again place PeptideCount h = refl
+told_again place LeafCount h = refl
+told_again place RegionCount h = refl
+told_again place Layout h = refl
+told_again place LeafLengths h = refl
+told_again place Misplaced h = refl
+told_again place Misordered h = refl
+told_again place Crossing h = refl
+told_again place TooDeep h = refl
+told_again place PathLength h = refl
+told_again place OffTheLine h = refl
+told_again place (Repeated p) h = ap Repeated (ap (λ (l : List ℕ). get_or l 0 0) h)
+told_again place Selection h = refl
+told_again place Fraction h = refl
+told_again place Room h = refl
+told_again place RowCount h = refl
+told_again place Row h = refl
+told_again place Rule h = refl
+told_again place PValueCount h = refl
+told_again place PValue h = refl
+told_again place Deviation h = refl
+told_again place Level h = refl
+told_again place ListLength h = refl
+told_again place Tally h = refl
+told_again place LevelCounts h = refl
+told_again place Levels h = refl
 
-unfoldable pub bounded_of : ℕ → List ℕ → Bounded
-bounded_of n [] = bounded.Refused n
-bounded_of n (v ∷ vs) = bounded.Bound v
+pub plain_again : (e : Refusal) → beside e ≡ [] → e ≡ refusal_of 0 (number_of e)
+plain_again e none =
+    told_again 0 e
+    (⊎_elim
+    (λ (t : eqb (number_of e) 13 ≡ true). absurd (place_there e (eqb-true (number_of e) 13 t) none))
+    (λ (f : eqb (number_of e) 13 ≡ false). none ∙ rw f refl)
+    (test (eqb (number_of e) 13)))
 
-unfoldable pub reduced_of : ℕ → List ℕ → ReducedFile
-reduced_of n [] = made.Refused n
-reduced_of n (l ∷ vs) = made.Written l (get_or vs 0 0)
+below_101 : (e : Refusal) → ltb (number_of e) 101 ≡ true
+below_101 Mark = refl
+below_101 PeptideCount = refl
+below_101 LeafCount = refl
+below_101 RegionCount = refl
+below_101 Layout = refl
+below_101 LeafLengths = refl
+below_101 Misplaced = refl
+below_101 Misordered = refl
+below_101 Crossing = refl
+below_101 TooDeep = refl
+below_101 PathLength = refl
+below_101 OffTheLine = refl
+below_101 (Repeated place) = refl
+below_101 Selection = refl
+below_101 Fraction = refl
+below_101 Room = refl
+below_101 RowCount = refl
+below_101 Row = refl
+below_101 Rule = refl
+below_101 PValueCount = refl
+below_101 PValue = refl
+below_101 Deviation = refl
+below_101 Level = refl
+below_101 ListLength = refl
+below_101 Tally = refl
+below_101 LevelCounts = refl
+below_101 Levels = refl
 
-unfoldable pub compared_of : ℕ → List ℕ → Compared
-compared_of n [] = compared.Refused n
-compared_of n (v ∷ vs) = cond (eqb v 1) compared.Same compared.Different
-
-unfoldable pub converted_of : ℕ → List ℕ → Converted
-converted_of n [] = converted.Refused n
-converted_of n (l ∷ vs) = converted.Written l
-
-pub checked_remade : (r : Checked) → r ≡ checked_of (report r).number (report r).values
-unfolding report checked_of
-checked_remade (told.Family m n k) = refl
-checked_remade (told.Refused n) = refl
-
-pub bounded_remade : (r : Bounded) → r ≡ bounded_of (report_bound r).number (report_bound r).values
-unfolding report_bound bounded_of
-bounded_remade (bounded.Bound v) = refl
-bounded_remade (bounded.Refused n) = refl
-
-pub reduced_remade : (r : ReducedFile) → r ≡ reduced_of (report_reduced r).number (report_reduced r).values
-unfolding report_reduced reduced_of
-reduced_remade (made.Written l k) = refl
-reduced_remade (made.Refused n) = refl
-
-pub compared_remade : (r : Compared) → r ≡ compared_of (report_compared r).number (report_compared r).values
-unfolding report_compared compared_of
-compared_remade compared.Same = refl
-compared_remade compared.Different = refl
-compared_remade (compared.Refused n) = refl
-
-pub converted_remade : (r : Converted) → r ≡ converted_of (report_converted r).number (report_converted r).values
-unfolding report_converted converted_of
-converted_remade (converted.Written l) = refl
-converted_remade (converted.Refused n) = refl
-
-pub yes_or_no : (b : Bool) → compared_of 0 (cond b 1 0 ∷ []) ≡ cond b compared.Same compared.Different
-unfolding compared_of
-yes_or_no true = refl
-yes_or_no false = refl
-
--- An answer that may have a place is made again likewise; with no values, the curve's number tells a refusal from a written curve.
-
-unfoldable pub curved_of : ℕ → List ℕ → Curved
-curved_of n [] = cond (eqb n 0) curved.Written (curved.Refused n)
-curved_of n (p ∷ vs) = curved.Repeated p
-
-unfoldable pub cut_found_of : ℕ → List ℕ → CutFound
-cut_found_of n [] = cutFound.Refused n
-cut_found_of n (v ∷ vs) = cond (eqb n 0) (cutFound.At v) (cutFound.Repeated v)
-
-curved_remade : (r : Curved) → declined_curve r ≡ not (eqb (report_curve r).number 0) → r ≡ curved_of (report_curve r).number (report_curve r).values
-unfolding report_curve declined_curve curved_of
-curved_remade curved.Written d = refl
-curved_remade (curved.Refused n) d = rw (not-true (eqb n 0) (sym d))
-curved_remade (curved.Repeated p) d = refl
-
-cut_remade : (r : CutFound) → r ≡ cut_found_of (report_cut r).number (report_cut r).values
-unfolding report_cut cut_found_of
-cut_remade (cutFound.At t) = refl
-cut_remade (cutFound.Refused n) = refl
-cut_remade (cutFound.Repeated p) = refl
-
--- the answer that a report tells
-abbrev pub curved_by : Report → Curved
-curved_by r = curved_of r.number r.values
-
-abbrev pub cut_found_by : Report → CutFound
-cut_found_by r = cut_found_of r.number r.values
-
-module _ (cs : List Cause) (path : List ℕ) where
-  pub curve_told : (r : Curved) → report_curve r ≡ path_answer cs path [] → declined_curve r ≡ not (eqb (first_cause cs) 0) → r ≡ curved_by (path_answer cs path [])
-  curve_told r h d =
-      curved_remade r (d ∙ ap (λ (n : ℕ). not (eqb n 0)) (sym (ap (λ (t : Report). t.number) h ∙ path_number cs path []))) ∙ ap curved_by h
-
-  pub cut_told : (result : List ℕ) (r : CutFound) → report_cut r ≡ path_answer cs path result → r ≡ cut_found_by (path_answer cs path result)
-  cut_told result r h = cut_remade r ∙ ap cut_found_by h
-
--- a refusal on a path, by its number
-module _ (path : List ℕ) (n : ℕ) where
-  pub curve_refusal : (n ≡ 0 → ⊥) → curved_by (path_refusal path n) ≡ cond (eqb n 13) (curved.Repeated (first_repeat path)) (curved.Refused n)
-  unfolding path_refusal curved_of
-  curve_refusal some = ⊎_elim (λ (t : eqb n 13 ≡ true). rw t) (λ (f : eqb n 13 ≡ false). rw (f, ne_eqb n 0 some)) (test (eqb n 13))
-
-  pub cut_refusal : (n ≡ 0 → ⊥) → cut_found_by (path_refusal path n) ≡ cond (eqb n 13) (cutFound.Repeated (first_repeat path)) (cutFound.Refused n)
-  unfolding path_refusal cut_found_of
-  cut_refusal some = ⊎_elim (λ (t : eqb n 13 ≡ true). rw (t, ne_eqb n 0 some)) (λ (f : eqb n 13 ≡ false). rw f) (test (eqb n 13))
+pub pair_again : (e : PairRefusal) → pair_beside e ≡ [] → e ≡ pair_refusal_of (pair_number e)
+unfolding pair_refusal_of
+pair_again (First e) none = rw (below_101 e) (ap First (plain_again e none))
+pair_again (Second e) none =
+    let past : ltb (number_of e + 100) 101 ≡ false = le-ltb (number_of e + 100) 101 (omega (arith, number_some e)) in
+    let back : (number_of e + 100) - 100 ≡ number_of e = omega arith in
+    rw (past, back) (ap Second (plain_again e none))

@@ -1,8 +1,8 @@
 -- What the calls of the C interface promise, defined from their inputs. What they leave in lent lists is promised in the words of
 -- the libraries (`TakenWrites`, `ListWrites`, `ChooseWrites`, `CurveValuesWrites`, `CurveMarksWrites`, `ReduceWrites`, `FromPWrites`,
--- `HybridWrites`, `ToLevelsWrites`, `FromLevelsWrites`), and so are the answers of a choice and of bounds from p-values
--- (`ChooseAnswers`, `FromPAnswers`), which are a number there too. The theorem of demand 1 (`DemandOne`) rests on these promises.
-use Rattle.std.specs.Prelude.{ℕ, List, [], ◌∷◌, ◌≡◌, length, take, drop}
+-- `HybridWrites`, `ToLevelsWrites`, `FromLevelsWrites`). The theorem of demand 1 (`DemandOne`) rests on these promises.
+use Rattle.std.specs.Prelude.{ℕ, List, [], ◌∷◌, ◌≡◌, length, take, drop, Float}
+use Rattle.reader.specs.Causes.{first_cause}
 use Rattle.reader.specs.Family.{family_of, region_count}
 use Rattle.reader.specs.Calls.{answer, checked, region_part}
 use Rattle.bounds.specs.Selections.{bound_of}
@@ -10,6 +10,9 @@ use Rattle.bounds.specs.Tally.{charge_of}
 use Rattle.bounds.specs.Curves.{cut_of}
 use Rattle.bounds.specs.Calls.{selection_causes, list_causes, listed, curve_causes, cut_causes, path_answer}
 use Rattle.reduction.specs.Calls.{reduce_causes, reduced_counts, compare_causes, comparison}
+use Rattle.volcano.specs.declared.Rule.{Rule}
+use Rattle.volcano.specs.Calls.{choose_causes}
+use Rattle.pvalues.specs.Calls.{from_p_causes}
 use Rattle.hybrid.specs.Calls.{hybrid_causes}
 use Rattle.levels.specs.Levels.{level_file_of, family_file_of}
 use Rattle.levels.specs.Calls.{to_levels_causes, from_levels_causes}
@@ -63,3 +66,10 @@ PhfToLevelsAnswers file out r = r ≡ converted_fields (answer (to_levels_causes
 
 abbrev pub PhfFromLevelsAnswers : List ℕ → List ℕ → PhfConverted → Type 0
 PhfFromLevelsAnswers file out r = r ≡ converted_fields (answer (from_levels_causes file (length out)) (length (family_file_of file) ∷ []))
+
+-- of a choice and of bounds from p-values the answer is the number alone
+abbrev pub PhfChooseAnswers : ℕ → List Float → List Float → Rule → List ℕ → ℕ → Type 0
+PhfChooseAnswers m ps folds rule out r = r ≡ first_cause (choose_causes m ps folds rule (length out))
+
+abbrev pub PhfFromPAnswers : List ℕ → List ℕ → ℕ → List ℕ → ℕ → Type 0
+PhfFromPAnswers file ps deviationSquared out r = r ≡ first_cause (from_p_causes file ps deviationSquared (length out))

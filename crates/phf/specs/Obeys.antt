@@ -1,7 +1,11 @@
 -- What demand 1 asks of a call: with bad input the first cause that holds, with its number, and every lent list unchanged; with no
 -- cause its work.
-use Rattle.std.specs.Prelude.{ℕ, ◌≤◌, true, false, List, [], ◌∷◌, ◌++◌, map, ◌≡◌}
+use Rattle.std.specs.Prelude.{ℕ, ◌-◌, ◌≤◌, true, false, cond, ltb, List, [], ◌∷◌, ◌++◌, map, get_or, ◌≡◌}
+use Rattle.reader.specs.declared.refusal.Refusal.{Refusal}
+use Rattle.reader.specs.declared.refusal.Refusal.TheVariants.{Mark, PeptideCount, LeafCount, RegionCount, Layout, LeafLengths, Misplaced, Misordered, Crossing, TooDeep, PathLength, OffTheLine, Repeated, Selection, Fraction, Room, RowCount, Row, Rule, PValueCount, PValue, Deviation, Level, ListLength, Tally, LevelCounts, Levels}
 use Rattle.reader.specs.Causes.{Cause, first_cause}
+use Rattle.reduction.specs.declared.PairRefusal.{PairRefusal}
+use Rattle.reduction.specs.declared.PairRefusal.TheVariants.{First, Second}
 
 -- the numbers of the causes, in the order in which they are tried
 abbrev pub numbers : List Cause → List ℕ
@@ -10,6 +14,18 @@ numbers cs = map (λ c. c.number) cs
 abbrev pub NoneHolds : List Cause → Type 0
 NoneHolds [] = Unit {0}
 NoneHolds (c ∷ cs) = (c.holds ≡ false) × NoneHolds cs
+
+-- the refusals by their numbers, from 1 on; the one with 13 has this place
+abbrev pub refusals : ℕ → List Refusal
+refusals place = Mark ∷ PeptideCount ∷ LeafCount ∷ RegionCount ∷ Layout ∷ LeafLengths ∷ Misplaced ∷ Misordered ∷ Crossing ∷ TooDeep ∷ PathLength ∷ OffTheLine ∷ Repeated place ∷ Selection ∷ Fraction ∷ Room ∷ RowCount ∷ Row ∷ Rule ∷ PValueCount ∷ PValue ∷ Deviation ∷ Level ∷ ListLength ∷ Tally ∷ LevelCounts ∷ Levels ∷ []
+
+-- the refusal with this number, and with this place where it has one
+unfoldable pub refusal_of : ℕ → ℕ → Refusal
+refusal_of place n = get_or (refusals place) (n - 1) Levels
+
+-- the same of two families: from 101 on it is that of the second
+unfoldable pub pair_refusal_of : ℕ → PairRefusal
+pair_refusal_of n = cond (ltb n 101) (First (refusal_of 0 n)) (Second (refusal_of 0 (n - 100)))
 
 -- none of the numbers is 0, which stands for no cause
 abbrev pub NoZero : List ℕ → Type 0

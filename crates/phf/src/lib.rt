@@ -4,21 +4,19 @@
 // choice, and of bounds from p-values, is the number alone.
 #![tactic(auto)]
 
-ghost use Rattle.std.specs.Prelude.{◌≡◌};
-ghost use Rattle.bounds.specs.Calls.{report_curve, TakenWrites, ListWrites, CurveValuesWrites, CurveMarksWrites};
-ghost use Rattle.hybrid.specs.Calls.{HybridWrites};
-ghost use Rattle.levels.specs.Calls.{report_converted, ToLevelsWrites, FromLevelsWrites};
-ghost use Rattle.pvalues.specs.Calls.{FromPAnswers, FromPWrites};
-ghost use Rattle.reduction.specs.Calls.{ReduceWrites};
-ghost use Rattle.volcano.specs.Calls.{ChooseAnswers, ChooseWrites};
-ghost use Rattle.volcano.specs.declared.Rule.TheVariants.{AtMost, Between, Volcano};
-ghost use Rattle.phf.specs.Calls.{PhfCheckAnswers, PhfRegionsAnswers, PhfRegionsPlaced, PhfBoundAnswers, PhfListAnswers, PhfCurveAnswers, PhfCutAnswers, PhfReduceAnswers, PhfSameAnswers, PhfHybridAnswers, PhfToLevelsAnswers, PhfFromLevelsAnswers};
-ghost use Rattle.phf.specs.Fields.{curved_fields, converted_fields};
+mod fields;
 
-use bounds::{Bounded, Curved, CutFound};
-use levels::Converted;
-use reader::Checked;
-use reduction::{Compared, ReducedFile};
+ghost use Rattle.std.specs.Prelude.{◌≡◌};
+ghost use Rattle.bounds.specs.Calls.{TakenWrites, ListWrites, CurveValuesWrites, CurveMarksWrites};
+ghost use Rattle.hybrid.specs.Calls.{HybridWrites};
+ghost use Rattle.levels.specs.Calls.{ToLevelsWrites, FromLevelsWrites};
+ghost use Rattle.pvalues.specs.Calls.{FromPWrites};
+ghost use Rattle.reduction.specs.Calls.{ReduceWrites};
+ghost use Rattle.volcano.specs.Calls.{ChooseWrites};
+ghost use Rattle.volcano.specs.declared.Rule.TheVariants.{AtMost, Between, Volcano};
+ghost use Rattle.phf.specs.Calls.{PhfCheckAnswers, PhfRegionsAnswers, PhfRegionsPlaced, PhfBoundAnswers, PhfListAnswers, PhfChooseAnswers, PhfCurveAnswers, PhfCutAnswers, PhfReduceAnswers, PhfSameAnswers, PhfFromPAnswers, PhfHybridAnswers, PhfToLevelsAnswers, PhfFromLevelsAnswers};
+
+use fields::number_of;
 use volcano::Rule;
 
 #[repr(C)]
@@ -94,24 +92,7 @@ pub struct PhfConverted {
 pub extern "C" fn phf_check(file: &[u8]) -> PhfChecked
     ensures { PhfCheckAnswers file.now result }
 {
-    match reader::check(file) {
-        Checked::Family {
-            peptides,
-            leaves,
-            regions,
-        } => PhfChecked {
-            number: 0,
-            peptides,
-            leaves,
-            regions,
-        },
-        Checked::Refused(number) => PhfChecked {
-            number,
-            peptides: 0,
-            leaves: 0,
-            regions: 0,
-        },
-    }
+    reader::check(file).into()
 }
 
 // Where the regions stand in an accepted file: the offset of their first byte and how many bytes they have.
@@ -122,15 +103,11 @@ pub extern "C" fn phf_regions(file: &[u8]) -> PhfPart
     ensures phf_regions_placed { PhfRegionsPlaced file.now result }
 {
     match reader::check(file) {
-        Checked::Family {
-            peptides: _,
-            leaves,
-            regions,
-        } => PhfPart {
-            offset: 16 + 2 * (leaves as u32),
-            length: 6 * (regions as u32),
+        Ok(sizes) => PhfPart {
+            offset: 16 + 2 * (sizes.leaves as u32),
+            length: 6 * (sizes.regions as u32),
         },
-        Checked::Refused(_) => PhfPart {
+        Err(_) => PhfPart {
             offset: 0,
             length: 0,
         },
@@ -143,10 +120,7 @@ pub extern "C" fn phf_bound(file: &[u8], selection: &[u8], taken: &mut [u8]) -> 
     ensures phf_bound_answers { PhfBoundAnswers file.now selection.now taken.old result }
     ensures taken_writes { TakenWrites file.now selection.now taken.old taken.new }
 {
-    match bounds::bound(file, selection, taken) {
-        Bounded::Bound(bound) => PhfBounded { number: 0, bound },
-        Bounded::Refused(number) => PhfBounded { number, bound: 0 },
-    }
+    bounds::bound(file, selection, taken).into()
 }
 
 // The bounds of up to 32 selections, joined in one buffer, and the tally with the list's charge added.
@@ -161,26 +135,7 @@ pub extern "C" fn phf_bounds_list(
     ensures phf_list_answers { PhfListAnswers file.now selections.now count tally values.old result }
     ensures list_writes { ListWrites file.now selections.now count tally values.old values.new }
 {
-    let answer = bounds::bound_list(file, selections, count, tally, values);
-    PhfListed {
-        number: answer.number,
-        charge: answer.charge,
-        tally: answer.tally,
-    }
-}
-
-// The answer of a call that writes a curve.
-fn curved(answer: Curved) -> PhfCurved
-    ensures { result ≡ curved_fields (report_curve answer) }
-{
-    match answer {
-        Curved::Written => PhfCurved {
-            number: 0,
-            place: 0,
-        },
-        Curved::Refused(number) => PhfCurved { number, place: 0 },
-        Curved::Repeated(place) => PhfCurved { number: 13, place },
-    }
+    bounds::bound_list(file, selections, count, tally, values).into()
 }
 
 // The curve along a path and its marks.
@@ -195,7 +150,7 @@ pub extern "C" fn phf_curve(
     ensures curve_values_writes { CurveValuesWrites file.now path.now values.old marks.old values.new }
     ensures curve_marks_writes { CurveMarksWrites file.now path.now values.old marks.old marks.new }
 {
-    curved(bounds::curve(file, path, values, marks))
+    bounds::curve(file, path, values, marks).into()
 }
 
 // The cut at q = a / b: the largest t at which entry t times b is at most a times t.
@@ -203,23 +158,7 @@ pub extern "C" fn phf_curve(
 pub extern "C" fn phf_cut(file: &[u8], path: &[u16], a: u16, b: u16) -> PhfCutting
     ensures { PhfCutAnswers file.now path.now a b result }
 {
-    match bounds::cut(file, path, a, b) {
-        CutFound::At(cut) => PhfCutting {
-            number: 0,
-            place: 0,
-            cut,
-        },
-        CutFound::Refused(number) => PhfCutting {
-            number,
-            place: 0,
-            cut: 0,
-        },
-        CutFound::Repeated(place) => PhfCutting {
-            number: 13,
-            place,
-            cut: 0,
-        },
-    }
+    bounds::cut(file, path, a, b).into()
 }
 
 // Writes the reduced file at the start of the output: its length and number of regions.
@@ -228,18 +167,7 @@ pub extern "C" fn phf_reduce(file: &[u8], out: &mut [u8]) -> PhfReduced
     ensures phf_reduce_answers { PhfReduceAnswers file.now out.old result }
     ensures reduce_writes { ReduceWrites file.now out.old out.new }
 {
-    match reduction::reduce(file, out) {
-        ReducedFile::Written { length, regions } => PhfReduced {
-            number: 0,
-            length,
-            regions,
-        },
-        ReducedFile::Refused(number) => PhfReduced {
-            number,
-            length: 0,
-            regions: 0,
-        },
-    }
+    reduction::reduce(file, out).into()
 }
 
 // Whether two families reduce to the same file: 1 for yes, 0 for no.
@@ -247,11 +175,7 @@ pub extern "C" fn phf_reduce(file: &[u8], out: &mut [u8]) -> PhfReduced
 pub extern "C" fn phf_same(first: &[u8], second: &[u8]) -> PhfCompared
     ensures { PhfSameAnswers first.now second.now result }
 {
-    match reduction::same(first, second) {
-        Compared::Same => PhfCompared { number: 0, same: 1 },
-        Compared::Different => PhfCompared { number: 0, same: 0 },
-        Compared::Refused(number) => PhfCompared { number, same: 0 },
-    }
+    reduction::same(first, second).into()
 }
 
 // The selection of the peptides whose p is at or under a cut: the number of the first cause that holds, 0 for none. C has no enum
@@ -264,10 +188,10 @@ pub extern "C" fn phf_choose_at_most(
     cut: f64,
     out: &mut [u8],
 ) -> u16
-    ensures choose_answers { ChooseAnswers m p_values.now folds.now (AtMost cut) out.old result }
+    ensures phf_choose_answers { PhfChooseAnswers m p_values.now folds.now (AtMost cut) out.old result }
     ensures choose_writes { ChooseWrites m p_values.now folds.now (AtMost cut) out.old out.new }
 {
-    volcano::choose(m, p_values, folds, Rule::AtMost(cut), out)
+    number_of(volcano::choose(m, p_values, folds, Rule::AtMost(cut), out))
 }
 
 // The same, for p from one cut to another, both included.
@@ -280,10 +204,10 @@ pub extern "C" fn phf_choose_between(
     high: f64,
     out: &mut [u8],
 ) -> u16
-    ensures choose_answers { ChooseAnswers m p_values.now folds.now (Between low high) out.old result }
+    ensures phf_choose_answers { PhfChooseAnswers m p_values.now folds.now (Between low high) out.old result }
     ensures choose_writes { ChooseWrites m p_values.now folds.now (Between low high) out.old out.new }
 {
-    volcano::choose(m, p_values, folds, Rule::Between(low, high), out)
+    number_of(volcano::choose(m, p_values, folds, Rule::Between(low, high), out))
 }
 
 // The same, for p at or under a cut with the log fold change at least `fold` or at most its negative.
@@ -296,10 +220,10 @@ pub extern "C" fn phf_choose_volcano(
     fold: f64,
     out: &mut [u8],
 ) -> u16
-    ensures choose_answers { ChooseAnswers m p_values.now folds.now (Volcano cut fold) out.old result }
+    ensures phf_choose_answers { PhfChooseAnswers m p_values.now folds.now (Volcano cut fold) out.old result }
     ensures choose_writes { ChooseWrites m p_values.now folds.now (Volcano cut fold) out.old out.new }
 {
-    volcano::choose(m, p_values, folds, Rule::Volcano(cut, fold), out)
+    number_of(volcano::choose(m, p_values, folds, Rule::Volcano(cut, fold), out))
 }
 
 // The number of the first cause that holds; for 0 the file with the z from the p-values, whole millionths, at the start of the output.
@@ -310,10 +234,10 @@ pub extern "C" fn phf_bounds_from_p(
     deviation_squared: u32,
     out: &mut [u8],
 ) -> u16
-    ensures from_p_answers { FromPAnswers file.now p_values.now deviation_squared out.old result }
+    ensures phf_from_p_answers { PhfFromPAnswers file.now p_values.now deviation_squared out.old result }
     ensures from_p_writes { FromPWrites file.now p_values.now deviation_squared out.old out.new }
 {
-    pvalues::bounds_from_p(file, p_values, deviation_squared, out)
+    number_of(pvalues::bounds_from_p(file, p_values, deviation_squared, out))
 }
 
 // The hybrid curve along a path, without marks: at each entry the smaller of the region bound and the Simes bound at the given level.
@@ -329,17 +253,7 @@ pub extern "C" fn phf_hybrid(
     ensures phf_hybrid_answers { PhfHybridAnswers file.now path.now p_values.now level values.old result }
     ensures hybrid_writes { HybridWrites file.now path.now p_values.now level values.old values.new }
 {
-    curved(hybrid::hybrid(file, path, p_values, level, values))
-}
-
-// The answer of a conversion.
-fn converted(answer: Converted) -> PhfConverted
-    ensures { result ≡ converted_fields (report_converted answer) }
-{
-    match answer {
-        Converted::Written(length) => PhfConverted { number: 0, length },
-        Converted::Refused(number) => PhfConverted { number, length: 0 },
-    }
+    hybrid::hybrid(file, path, p_values, level, values).into()
 }
 
 // Writes the file of a family by level at the start of the output: its length.
@@ -348,7 +262,7 @@ pub extern "C" fn phf_to_levels(file: &[u8], out: &mut [u8]) -> PhfConverted
     ensures phf_to_levels_answers { PhfToLevelsAnswers file.now out.old result }
     ensures to_levels_writes { ToLevelsWrites file.now out.old out.new }
 {
-    converted(levels::to_levels(file, out))
+    levels::to_levels(file, out).into()
 }
 
 // Writes the family file of what a file by level lists at the start of the output: its length.
@@ -357,5 +271,5 @@ pub extern "C" fn phf_from_levels(file: &[u8], out: &mut [u8]) -> PhfConverted
     ensures phf_from_levels_answers { PhfFromLevelsAnswers file.now out.old result }
     ensures from_levels_writes { FromLevelsWrites file.now out.old out.new }
 {
-    converted(levels::from_levels(file, out))
+    levels::from_levels(file, out).into()
 }

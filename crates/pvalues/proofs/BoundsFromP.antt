@@ -7,6 +7,7 @@ use mathlib.Core.Path.{◌≡◌, refl, sym, ap, ap₂, subst, ◌∙◌}
 use native.Mathlib.Omega.{arith}
 use lib.ListN.{length, get_or, take, drop, length-map}
 use lib.Seq.{take_at, drop_at, get_or-take, get_or-drop}
+use Rattle.std.specs.Prelude.{Result, Ok, Err}
 use Rattle.reader.specs.Lists.{tabulate}
 use Rattle.reader.specs.Family.{Region, Family, family_of, file_of, region_count, region, no_region, peptides_up_to, EmptyRegion}
 use Rattle.reader.specs.Nesting.{region_within}
@@ -14,6 +15,9 @@ use Rattle.reader.specs.Causes.{first_cause, AcceptedFile}
 use Rattle.reader.specs.WellFormed.{WellFormed, SameRanges}
 use Rattle.reader.proofs.Bools.{clash}
 use Rattle.reader.proofs.Lists.{get_d_tabulate, tabulate_same}
+use Rattle.reader.specs.Refusals.{verdict}
+use Rattle.reader.specs.declared.refusal.Refusal.{Refusal}
+use Rattle.reader.proofs.Refusals.{number_some}
 use Rattle.reader.proofs.First.{writes}
 use Rattle.reader.proofs.Accepting.{well_formed_lem}
 use Rattle.reader.proofs.Files.{file_bytes, file_accepted, read_back}
@@ -49,8 +53,8 @@ pub record RegionZ (F : Family) (ps : List ℕ) (deviationSquared : ℕ) (r : Re
   pub none_if_empty : EmptyRegion F r → z ≡ 0
 
 pub record BoundsFromP : Type 0 where
-  -- The call answers 0, and leaves the bytes beyond the file as they were.
-  pub answered : (f : AcceptedFile) (c : FromPCall f) → c.number ≡ 0
+  -- The call declines nothing, and leaves the bytes beyond the file as they were.
+  pub answered : (f : AcceptedFile) (c : FromPCall f) → c.answer ≡ Ok (tt {0})
   pub rest : (f : AcceptedFile) (c : FromPCall f) → drop (length f.file) c.new ≡ drop (length f.file) c.old
   -- What it writes is as long as the given file, and is an accepted file: one of those that the demands speak of.
   pub same_length : (f : AcceptedFile) (c : FromPCall f) → length (new_file f c) ≡ length f.file
@@ -126,6 +130,11 @@ module _ {F G : Family} (same : SameRanges F G) (ps : List ℕ) (deviationSquare
       λ i. record { peptides = same.peptides i; lengths = same.lengths i; regions = regions i }
 
 -- A call.
+
+-- a call that answers 0 declines nothing
+declines_nothing : (r : Result (Unit {0}) Refusal) → verdict r ≡ 0 → r ≡ Ok (tt {0})
+declines_nothing (Ok done) h = refl
+declines_nothing (Err refusal) h = absurd (number_some refusal h)
 
 module _ (f : AcceptedFile) (c : FromPCall f) where
   abbrev F : Family
@@ -207,7 +216,7 @@ module _ (f : AcceptedFile) (c : FromPCall f) where
 pub bounds_from_p : BoundsFromP
 bounds_from_p =
     record {
-      answered = λ f c. c.answers ∙ none f c;
+      answered = λ f c. declines_nothing c.answer (c.answers ∙ none f c);
       rest = rest_kept;
       same_length = λ f c. ap length (file_is f c) ∙ new_length f c;
       accepted = λ f c. (record { file = file_of (G f c); bytes = file_bytes (G f c); accepted = file_accepted (G f c) (formed f c) }, sym (file_is f c));

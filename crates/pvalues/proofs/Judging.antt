@@ -13,9 +13,12 @@ use Rattle.reader.specs.Lists.{some_below}
 use Rattle.reader.specs.Bytes.{IsBytes}
 use Rattle.reader.specs.Family.{family_of}
 use Rattle.reader.specs.Causes.{Cause, first_cause, file_causes, Accepted}
+use Rattle.reader.specs.Refusals.{number_of}
 use Rattle.reader.specs.Calls.{short, ParentsWrites}
+use Rattle.reader.specs.declared.refusal.Refusal.{Refusal}
 use Rattle.reader.proofs.Below.{none_at}
-use Rattle.reader.proofs.First.{Numbered, head_clear, join_clear, join_holds}
+use Rattle.reader.proofs.First.{Numbered, head_clear, join_clear}
+use Rattle.reader.proofs.Refusals.{number_some, first_of}
 use Rattle.reader.proofs.Parsed.{byte_past}
 use Rattle.reader.proofs.Accepting.{well_formed_lem, accepted_header, few_regions, file_numbered}
 use Rattle.reader.proofs.ParentLaws.{enough_room, enough_first, parents_given}
@@ -72,9 +75,6 @@ module _ (tooShort : Bool) (m : ℕ) (ps : List ℕ) where
     abbrev inputs : List Cause
     inputs = room_and_p_values tooShort m ps ++ (c ∷ [])
 
-    pub inputs_hold : (n : ℕ) → n ≡ first_cause (room_and_p_values tooShort m ps) → (n ≡ 0 → ⊥) → n ≡ first_cause inputs
-    inputs_hold n e some = e ∙ sym (join_holds (room_and_p_values tooShort m ps) (c ∷ []) (λ z. some (e ∙ z)))
-
     pub last_judged : first_cause (room_and_p_values tooShort m ps) ≡ 0 → cond c.holds c.number 0 ≡ first_cause inputs
     unfolding first_cause
     last_judged none = sym (join_clear (room_and_p_values tooShort m ps) (c ∷ []) inputs_numbered none)
@@ -97,10 +97,6 @@ module _ (tooShort : Bool) (m : ℕ) (ps : List ℕ) where
 -- Bounds from p-values: the causes in the order in which they are tried.
 
 module _ (file ps : List ℕ) (deviationSquared room : ℕ) where
-  first_file : (first_cause (file_causes file) ≡ 0 → ⊥) → first_cause (from_p_causes file ps deviationSquared room) ≡ first_cause (file_causes file)
-  unfolding from_p_causes
-  first_file h = join_holds (file_causes file) (from_p_inputs file ps deviationSquared room) h
-
   pub first_input : Accepted file → first_cause (from_p_causes file ps deviationSquared room) ≡ first_cause (from_p_inputs file ps deviationSquared room)
   unfolding from_p_causes
   first_input h = join_clear (file_causes file) (from_p_inputs file ps deviationSquared room) (file_numbered file) h
@@ -117,8 +113,9 @@ module _ (file ps : List ℕ) (deviationSquared room : ℕ) where
       let k = inputs_known _ _ ps _ (omega arith) h in
       (record { values = k.1.0; most = k.1.1.0; constant = ltb-false 100000000 deviationSquared k.1.1.1 }, ltb-false room (length file) k.0)
 
-  pub judged_refused : (P : List ℕ) (n : ℕ) → n ≡ first_cause (file_causes file) → (n ≡ 0 → ⊥) → FromPJudged file ps deviationSquared room P n
-  judged_refused P n e some = record { first = e ∙ sym (first_file (λ z. some (e ∙ z))); ready = λ z. absurd (some z) }
+  pub judged_refused : (P : List ℕ) (e : Refusal) → number_of e ≡ first_cause (file_causes file) → FromPJudged file ps deviationSquared room P (number_of e)
+  unfolding from_p_causes
+  judged_refused P e h = record { first = first_of e (file_causes file) h (from_p_inputs file ps deviationSquared room); ready = λ z. absurd (number_some e z) }
 
   -- an accepted file, whose parents stand in the list that `parents` leaves
   pub judged_accepted : IsBytes file → Accepted file → (out P : List ℕ) → 8191 ≤ length out → length P ≡ length out → ParentsWrites file out P

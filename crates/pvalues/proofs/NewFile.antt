@@ -1,7 +1,7 @@
 -- The file of a family with new z: what comes before the regions is that of the given file, and the regions are written one by one.
 use Prim.Native.Nat.{ℕ, ◌+◌, ◌*◌, ◌<◌, ◌≤◌}
 use mathlib.Core.List.{List, [], ◌∷◌, ◌++◌, append_assoc}
-use mathlib.Core.Path.{◌≡◌, refl, sym, ap, ap₂, ◌∙◌}
+use mathlib.Core.Path.{◌≡◌, sym, ap, ap₂, ◌∙◌}
 use native.Mathlib.Numerals.{add-one}
 use native.Mathlib.Omega.{arith}
 use lib.ListN.{length, get_or, take, drop, length-map, length-append, length-drop}
@@ -19,15 +19,7 @@ use Rattle.bounds.proofs.Theory.Family.{map_tabulate}
 use Rattle.pvalues.specs.FromP.{bounded_region, family_from_p}
 use Rattle.pvalues.specs.Calls.{from_p_causes, file_from_p, FromPWrites}
 use Rattle.pvalues.specs.Private.Writing.{with_bound, with_bounds}
-use Rattle.pvalues.specs.Private.Climbing.{BoundsFound}
-
--- three numbers, one after the other
-pub three_put : (out one two three : List ℕ) (at a b z : ℕ) → one ≡ with_numbers out at (a ∷ []) → two ≡ with_numbers one (at + 2) (b ∷ []) → three ≡ with_numbers two (at + 4) (z ∷ [])
-    → three ≡ with_numbers out at (a ∷ b ∷ z ∷ [])
-three_put out one two three at a b z e f g =
-    g
-    ∙ ap (λ (l : List ℕ). with_numbers l (at + 4) (z ∷ [])) (f ∙ ap (λ (l : List ℕ). with_numbers l (at + 2) (b ∷ [])) e ∙ numbers_join out at (a ∷ []) (b ∷ []) (at + 2) refl)
-    ∙ numbers_join out at (a ∷ b ∷ []) (z ∷ []) (at + 4) refl
+use Rattle.pvalues.specs.Private.Lowering.{z_at}
 
 -- bytes that are written where a copied front ends
 placed_after : (p out b : List ℕ) (n : ℕ) → length p ≡ n → n + length b ≤ length out → sets (p ++ drop n out) n b ≡ at_start (p ++ b) out
@@ -114,7 +106,8 @@ module _ (F : Family) (Z : List ℕ) where
       ∙ ap (λ (l : List ℕ). at_start l out) (ap (λ (l : List ℕ). l ++ bytes_of (region_fields G.regions)) (sym same_front) ∙ sym (front_file G))
 
   -- the z that were found make the family of the definition
-  pub bounds_family : (ps : List ℕ) (deviationSquared : ℕ) → BoundsFound F ps deviationSquared Z → with_bounds F Z ≡ family_from_p F ps deviationSquared
+  pub bounds_family : (ps : List ℕ) (deviationSquared : ℕ) → ((k : ℕ) → k < region_count F → get_or Z k 0 ≡ z_at F ps deviationSquared k)
+      → with_bounds F Z ≡ family_from_p F ps deviationSquared
   unfolding with_bounds family_from_p bounded_region region
   bounds_family ps deviationSquared found =
       ap (λ (rs : List Region). record { peptides = F.peptides; lengths = F.lengths; regions = rs })
@@ -122,13 +115,11 @@ module _ (F : Family) (Z : List ℕ) where
       ∙ sym (map_tabulate no_region (bounded_region F ps deviationSquared) F.regions))
 
 -- the file that is promised
-pub writes_from_p : (file ps : List ℕ) (deviationSquared : ℕ) (out new Z : List ℕ) → first_cause (from_p_causes file ps deviationSquared (length out)) ≡ 0 → BoundsFound (family_of file) ps deviationSquared Z
-    → new ≡ at_start (file_of (with_bounds (family_of file) Z)) out → FromPWrites file ps deviationSquared out new
+pub writes_from_p : (file ps : List ℕ) (deviationSquared : ℕ) (out new : List ℕ) → first_cause (from_p_causes file ps deviationSquared (length out)) ≡ 0
+    → new ≡ at_start (file_of (family_from_p (family_of file) ps deviationSquared)) out → FromPWrites file ps deviationSquared out new
 unfolding file_from_p
-writes_from_p file ps deviationSquared out new Z none found e =
-    e
-    ∙ ap (λ (G : Family). at_start (file_of G) out) (bounds_family (family_of file) Z ps deviationSquared found)
-    ∙ sym (writes (from_p_causes file ps deviationSquared (length out)) none (file_of (family_from_p (family_of file) ps deviationSquared)) out)
+writes_from_p file ps deviationSquared out new none e =
+    e ∙ sym (writes (from_p_causes file ps deviationSquared (length out)) none (file_of (family_from_p (family_of file) ps deviationSquared)) out)
 
 -- it is as long as the given one
 pub from_p_length : (file ps : List ℕ) (deviationSquared : ℕ) → Accepted file → length (file_from_p file ps deviationSquared) ≡ length file

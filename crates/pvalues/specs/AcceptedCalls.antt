@@ -1,8 +1,9 @@
 -- Calls of `bounds_from_p` that have nothing to decline, of which the theorem speaks: an accepted file, a p-value for each of its
 -- peptides, a constant, and room for what is written.
-use Rattle.std.specs.Prelude.{ℕ, ◌≤◌, false, List, ◌≡◌, length, take}
+use Rattle.std.specs.Prelude.{ℕ, ◌≤◌, false, List, ◌≡◌, length, take, Result}
 use Rattle.reader.specs.Family.{Family, family_of}
 use Rattle.reader.specs.Causes.{AcceptedFile}
+use Rattle.reader.specs.declared.refusal.Refusal.{Refusal}
 use Rattle.pvalues.specs.FromP.{cause20, cause21, cause22}
 use Rattle.pvalues.specs.Calls.{FromPAnswers, FromPWrites}
 
@@ -17,9 +18,9 @@ pub record FromPCall (f : AcceptedFile) : Type 0 where
   pub old : List ℕ
   pub room : length f.file ≤ length old
   -- its answer and the lent list after it, with its promises
-  pub number : ℕ
+  pub answer : Result (Unit {0}) Refusal
   pub new : List ℕ
-  pub answers : FromPAnswers f.file p_values deviation_squared old number
+  pub answers : FromPAnswers f.file p_values deviation_squared old answer
   pub writes : FromPWrites f.file p_values deviation_squared old new
 
 -- the file that it has written, as long as the given one, and the family in it

@@ -1,8 +1,10 @@
 -- What `bounds_from_p` answers and writes, defined from its inputs.
-use Rattle.std.specs.Prelude.{ℕ, Bool, List, [], ◌∷◌, ◌++◌, ◌≡◌, length}
+use Rattle.std.specs.Prelude.{ℕ, Bool, List, [], ◌∷◌, ◌++◌, ◌≡◌, length, Result}
 use Rattle.reader.specs.Family.{family_of, file_of}
 use Rattle.reader.specs.Causes.{Cause, first_cause, file_causes}
+use Rattle.reader.specs.Refusals.{verdict}
 use Rattle.reader.specs.Calls.{written, short}
+use Rattle.reader.specs.declared.refusal.Refusal.{Refusal}
 use Rattle.pvalues.specs.FromP.{family_from_p, cause20, cause21, cause22}
 
 -- what `bounds_from_p` and `hybrid` try after the family, and the path if there is one: an output that is too short, then the p-values
@@ -30,9 +32,9 @@ file_from_p file ps deviationSquared = file_of (family_from_p (family_of file) p
 -- What the call promises. The list that is lent for the output stands for what it held before the call; new is what the call leaves
 -- in it.
 
--- the answer r of `bounds_from_p`: no value comes with it, so it is the number alone
-abbrev pub FromPAnswers : List ℕ → List ℕ → ℕ → List ℕ → ℕ → Type 0
-FromPAnswers file ps deviationSquared out r = r ≡ first_cause (from_p_causes file ps deviationSquared (length out))
+-- the answer r of `bounds_from_p`: no value comes with it, so that its number says all
+abbrev pub FromPAnswers : List ℕ → List ℕ → ℕ → List ℕ → Result (Unit {0}) Refusal → Type 0
+FromPAnswers file ps deviationSquared out r = verdict r ≡ first_cause (from_p_causes file ps deviationSquared (length out))
 
 -- the file of `bounds_from_p`
 abbrev pub FromPWrites : List ℕ → List ℕ → ℕ → List ℕ → List ℕ → Type 0

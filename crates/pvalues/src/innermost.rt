@@ -3,8 +3,9 @@ ghost use Rattle.std.specs.Prelude.{◌≡◌, ℕ, ◌-◌, ◌≤◌, length, 
 ghost use Rattle.reader.specs.Family.{family_of, leaves, peptides_up_to};
 ghost use Rattle.reader.specs.WellFormed.{WellFormed};
 ghost use Rattle.bounds.specs.Holding.{PaintedBefore};
-ghost use Rattle.pvalues.specs.Private.Climbing.{Filled, Room};
+ghost use Rattle.pvalues.specs.Private.Climbing.{Filled};
 
+use crate::lowering::Lowering;
 use reader::family::{Leaf, Peptide, peptides_between, region_count, region_of};
 
 // The peptides of the leaves after one and up to another, in a family with at most 4,096 of them.
@@ -17,46 +18,38 @@ fn peptides_of(file: &[u8], after: Leaf, upto: Leaf) -> u16
 }
 
 // Writes a region's number at each of its peptides: those after the first one named, and up to the second.
-fn paint(innermost: &mut [u16], after: Peptide, upto: Peptide, number: u16)
-    requires { (after.0 ≤ upto.0) × (upto.0 ≤ length innermost.old) }
+fn paint(innermost: &mut [u16; 4096], after: Peptide, upto: Peptide, number: u16)
+    requires { (after.0 ≤ upto.0) × (upto.0 ≤ 4096) }
     ensures { PaintedBefore innermost.old after.0 number upto.0 innermost.new }
 {
-    let end = upto.0 as usize;
-    let mut i = after.0 as usize;
-    while i < end {
-        innermost[i] = number;
-        i += 1;
-    }
+    innermost[after.0 as usize..upto.0 as usize].fill(number);
 }
 
-// Writes at each peptide the number of the innermost region that has it, and for each region how many peptides it has, twice: as
-// what is left of its p-values, and as the z to begin with. In file order what is inside a region comes after it, so the last number
+// Writes at each peptide the number of the innermost region that has it, and for each region how many peptides it has: so many of its
+// p-values are left to begin with, and so much is its z. In file order what is inside a region comes after it, so the last number
 // written at a peptide stays. The first leaves rise, so the peptides before a region are counted on from those before the region
 // before it.
 pub(crate) fn fill_innermost(
     file: &[u8],
-    innermost: &mut [u16],
-    left: &mut [u16],
-    bounds: &mut [u16],
+    innermost: &mut [u16; 4096],
+    regions: &mut [Lowering; 8191],
 )
     requires well_formed { WellFormed (family_of file.now) }
-    requires room { Room (family_of file.now) innermost.old left.old bounds.old }
-    requires by_index { (i : ℕ) → get_or innermost.old i 0 ≡ 0 }
-    ensures { Filled (family_of file.now) innermost.new left.new bounds.new }
+    requires zeroed { (i : ℕ) → get_or innermost.old i 0 ≡ 0 }
+    ensures { Filled (family_of file.now) innermost.new regions.new }
 {
-    let regions = region_count(file);
     let mut passed = 0;
     let mut low = 0;
-    let mut k = 0;
-    while k < regions {
+    for k in 0..region_count(file) {
         let region = region_of(file, k);
         let before = region.first.0 - 1;
         low += peptides_of(file, Leaf(passed), Leaf(before));
         passed = before;
         let size = peptides_of(file, Leaf(before), region.last);
-        left[k as usize] = size;
-        bounds[k as usize] = size;
-        k += 1;
-        paint(innermost, Peptide(low), Peptide(low + size), k);
+        regions[k as usize] = Lowering {
+            left: size,
+            z: size,
+        };
+        paint(innermost, Peptide(low), Peptide(low + size), k + 1);
     }
 }

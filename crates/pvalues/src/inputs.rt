@@ -2,13 +2,14 @@
 ghost use Rattle.std.specs.Prelude.{◌≡◌, ◌≤◌, length, ltb};
 ghost use Rattle.reader.specs.Family.{family_of};
 ghost use Rattle.reader.specs.Causes.{first_cause};
+ghost use Rattle.reader.specs.Refusals.{verdict};
 ghost use Rattle.reader.specs.Calls.{short};
 ghost use Rattle.pvalues.specs.FromP.{cause21};
 ghost use Rattle.pvalues.specs.Calls.{room_and_p_values, from_p_inputs};
 ghost use Rattle.pvalues.specs.Private.Judging.{FromPJudged};
 
-use reader::Checked;
 use reader::family::peptide_count;
+use reader::refusal::Refusal;
 
 fn over_one(p: u32) -> bool
     ensures { result ≡ ltb 1000000 p }
@@ -21,55 +22,59 @@ fn bad_p_values(p_values: &[u32]) -> bool
     ensures { result ≡ cause21 p_values.now }
 {
     let mut bad = false;
-    let mut i = 0;
-    while i < p_values.len() {
-        bad |= over_one(p_values[i]);
-        i += 1;
+    for p in p_values {
+        bad |= over_one(*p);
     }
     bad
 }
 
-// The first of the causes 16, 20 and 21 that holds, or 0; the output has room for so many elements, and so many are needed.
-pub fn room_and_p_cause(file: &[u8], p_values: &[u32], needed: usize, room: usize) -> u16
-    ensures { result ≡ first_cause (room_and_p_values (short needed room) (family_of file.now).peptides p_values.now) }
+// Declines by the first of the causes 16, 20 and 21; the output has room for so many elements, and so many are needed.
+pub fn check_room_and_p_values(
+    file: &[u8],
+    p_values: &[u32],
+    needed: usize,
+    room: usize,
+) -> Result<(), Refusal>
+    ensures { verdict result ≡ first_cause (room_and_p_values (short needed room) (family_of file.now).peptides p_values.now) }
 {
     if room < needed {
-        return 16;
+        return Err(Refusal::Room);
     }
     if p_values.len() != peptide_count(file) as usize {
-        return 20;
+        return Err(Refusal::PValueCount);
     }
-    if bad_p_values(p_values) { 21 } else { 0 }
+    if bad_p_values(p_values) {
+        return Err(Refusal::PValue);
+    }
+    Ok(())
 }
 
-// The first cause of `bounds_from_p` after those of the file that holds, with an output of so many bytes, or 0.
-fn input_cause(file: &[u8], p_values: &[u32], deviation_squared: u32, room: usize) -> u16
-    ensures { result ≡ first_cause (from_p_inputs file.now p_values.now deviation_squared room) }
-{
-    let cause = room_and_p_cause(file, p_values, file.len(), room);
-    if cause != 0 {
-        return cause;
-    }
-    if 100000000 < deviation_squared { 22 } else { 0 }
-}
-
-// The first cause that holds, or 0 with the parents of the regions written.
-pub(crate) fn from_p_cause(
+// Declines by the first cause of `bounds_from_p` after those of the file, with an output of so many bytes.
+fn check_inputs(
     file: &[u8],
     p_values: &[u32],
     deviation_squared: u32,
     room: usize,
-    parents: &mut [u16],
-) -> u16
-    requires { 8191 ≤ length parents.old }
-    ensures { FromPJudged file.now p_values.now deviation_squared room parents.new result }
+) -> Result<(), Refusal>
+    ensures { verdict result ≡ first_cause (from_p_inputs file.now p_values.now deviation_squared room) }
 {
-    match reader::parents(file, parents) {
-        Checked::Family {
-            peptides: _,
-            leaves: _,
-            regions: _,
-        } => input_cause(file, p_values, deviation_squared, room),
-        Checked::Refused(number) => number,
+    check_room_and_p_values(file, p_values, file.len(), room)?;
+    if 100000000 < deviation_squared {
+        return Err(Refusal::Deviation);
     }
+    Ok(())
+}
+
+// Declines by the first cause; where none holds, the parents of the regions are written.
+pub(crate) fn check_from_p(
+    file: &[u8],
+    p_values: &[u32],
+    deviation_squared: u32,
+    room: usize,
+    parents: &mut [u16; 8191],
+) -> Result<(), Refusal>
+    ensures { FromPJudged file.now p_values.now deviation_squared room parents.new (verdict result) }
+{
+    reader::parents(file, parents)?;
+    check_inputs(file, p_values, deviation_squared, room)
 }

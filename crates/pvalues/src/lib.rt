@@ -10,25 +10,35 @@ mod writing;
 
 ghost use Rattle.pvalues.specs.Calls.{FromPAnswers, FromPWrites};
 
-use climbing::find_bounds;
-use inputs::from_p_cause;
-use writing::write_family;
+use inputs::check_from_p;
+use ordering::order_by_p;
+use reader::refusal::Refusal;
+use writing::write_from_p;
 
 // The file of the family with the given leaves and ranges, and for each region the z from its p-values, at the start of the output;
-// the answer is the number of the first cause that holds, 0 for none. p-values are whole millionths, the first that of peptide 1.
+// a refusal names the first cause that holds. p-values are whole millionths, the first that of peptide 1.
 // The constant is the square of the source's deviation term: half the natural logarithm of 1/λ for a risk level λ, in millionths, rounded
 // up. The z of the given file are not used. A declined call leaves the output unchanged.
-pub fn bounds_from_p(file: &[u8], p_values: &[u32], deviation_squared: u32, out: &mut [u8]) -> u16
+pub fn bounds_from_p(
+    file: &[u8],
+    p_values: &[u32],
+    deviation_squared: u32,
+    out: &mut [u8],
+) -> Result<(), Refusal>
     ensures from_p_answers { FromPAnswers file.now p_values.now deviation_squared out.old result }
     ensures from_p_writes { FromPWrites file.now p_values.now deviation_squared out.old out.new }
 {
     let mut parents = [0u16; 8191];
-    let cause = from_p_cause(file, p_values, deviation_squared, out.len(), &mut parents);
-    if cause != 0 {
-        return cause;
-    }
-    let mut bounds = [0u16; 8191];
-    find_bounds(file, &parents, p_values, deviation_squared, &mut bounds);
-    write_family(file, &bounds, out);
-    0
+    check_from_p(file, p_values, deviation_squared, out.len(), &mut parents)?;
+    let mut order = [0u16; 4096];
+    order_by_p(p_values, &mut order);
+    write_from_p(
+        file,
+        &parents,
+        p_values,
+        deviation_squared,
+        &order[..p_values.len()],
+        out,
+    );
+    Ok(())
 }

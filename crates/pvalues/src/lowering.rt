@@ -1,7 +1,32 @@
-// Whether a number passes at a threshold, and the largest one, up to a given one, that does.
-ghost use Rattle.std.specs.Prelude.{◌≡◌, ◌≤◌};
+// Whether a number passes at a threshold, the largest one, up to a given one, that does, and a region whose z is lowered to it.
+ghost use Rattle.std.specs.Prelude.{◌≡◌, ◌-◌, ◌≤◌};
 ghost use Rattle.bounds.specs.Curves.{largest_up_to};
 ghost use Rattle.pvalues.specs.FromP as from;
+ghost use Rattle.pvalues.specs.Private.Lowering.{lower_at};
+
+// A region whose z is being lowered: how many of its p-values are left, and its z so far.
+#[derive(Clone, Copy)]
+pub(crate) struct Lowering {
+    pub(crate) left: u16,
+    pub(crate) z: u16,
+}
+
+impl Lowering {
+    // One of its p-values, no less than those before it, is no longer left.
+    pub(crate) fn lowered(self, p: u32, deviation_squared: u32) -> Lowering
+        requires p_bound { p ≤ 1000000 }
+        requires constant_bound { deviation_squared ≤ 100000000 }
+        requires z_bound { self.z ≤ 4096 }
+        ensures left { result.left ≡ self.left - 1 }
+        ensures z { result.z ≡ lower_at deviation_squared p self.left self.z }
+    {
+        let over = self.left.saturating_sub(1);
+        Lowering {
+            left: over,
+            z: largest_passing(deviation_squared, 1000000 - p, over, self.z),
+        }
+    }
+}
 
 // Whether v passes at a threshold with this gap and so many p-values over it. The largest square is that of 4,096,000,000.
 fn passes(deviation_squared: u32, gap: u32, over: u16, v: u16) -> bool
@@ -17,8 +42,8 @@ fn passes(deviation_squared: u32, gap: u32, over: u16, v: u16) -> bool
     excess * excess <= (deviation_squared as u64) * (v as u64) * 1000000
 }
 
-// The largest z, up to the one given, that passes. 0 passes always.
-pub(crate) fn lowered(deviation_squared: u32, gap: u32, over: u16, z: u16) -> u16
+// The largest z, up to the one given, that passes. 0 passes always, so that a `find` would name a value for a case that cannot be.
+fn largest_passing(deviation_squared: u32, gap: u32, over: u16, z: u16) -> u16
     requires { (deviation_squared ≤ 100000000) × (gap ≤ 1000000) × (z ≤ 4096) }
     ensures { result ≡ largest_up_to z (from.passes deviation_squared gap over) }
 {

@@ -2,14 +2,14 @@
 use Prim.Native.Nat.{ℕ, ◌≤◌}
 use native.Mathlib.Omega.{arith}
 use mathlib.Core.Bool.{true, false}
-use mathlib.Core.List.{List, [], ◌∷◌, ◌++◌, nil≢cons}
-use mathlib.Core.Path.{◌≡◌, refl, sym, ap, ◌∙◌}
+use mathlib.Core.List.{List, [], ◌∷◌, ◌++◌}
+use mathlib.Core.Path.{◌≡◌, refl, sym, ◌∙◌}
 use mathlib.Core.Logic.{◌⊎◌, inl, inr, ⊎_elim}
 use lib.ListN.{length, drop}
 use lib.Dec.{eqb}
 use borrow.Author.Tests.{eqb-true, eqb-false, ne_eqb}
 use Rattle.reader.specs.Causes.{Cause, first_cause}
-use Rattle.reader.specs.Calls.{Report, answer, written}
+use Rattle.reader.specs.Calls.{answer, written}
 use Rattle.reader.proofs.Bools.{test}
 
 -- no cause has the number 0, which stands for none
@@ -85,18 +85,3 @@ module _ (cs : List Cause) where
 
   pub none_or_some : (first_cause cs ≡ 0) ⊎ (first_cause cs ≡ 0 → ⊥)
   none_or_some = ⊎_elim (λ t. inl (eqb-true (first_cause cs) 0 t)) (λ f. inr (eqb-false (first_cause cs) 0 f)) (test (eqb (first_cause cs) 0))
-
-  -- what a caller learns from an answer with no value, and from one with values
-  pub learns_number : (n : ℕ) (v : ℕ) (vs : List ℕ) → record { number = n; values = [] } ≡ answer cs (v ∷ vs) → (n ≡ first_cause cs) × (n ≡ 0 → ⊥)
-  learns_number n v vs h =
-      ⊎_elim
-      (λ z. absurd (nil≢cons (ap (λ (r : Report). r.values) (h ∙ answers z (v ∷ vs)))))
-      (λ s. let e : n ≡ first_cause cs = ap (λ (r : Report). r.number) (h ∙ declines s (v ∷ vs)) in (e, λ z. s (sym e ∙ z)))
-      none_or_some
-
-  pub learns_values : (n u : ℕ) (us vs : List ℕ) → record { number = n; values = u ∷ us } ≡ answer cs vs → (first_cause cs ≡ 0) × (u ∷ us ≡ vs)
-  learns_values n u us vs h =
-      ⊎_elim
-      (λ z. (z, ap (λ (r : Report). r.values) (h ∙ answers z vs)))
-      (λ s. absurd (nil≢cons (sym (ap (λ (r : Report). r.values) (h ∙ declines s vs)))))
-      none_or_some

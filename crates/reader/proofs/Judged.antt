@@ -7,14 +7,14 @@ use mathlib.Core.List.{List}
 use mathlib.Core.Path.{◌≡◌, refl}
 use mathlib.Core.Logic.{◌⊎◌, inl, inr, ⊎_elim}
 use lib.ListN.{length, take}
-use lib.Dec.{leb, ltb, eqb}
-use borrow.Author.Tests.{ltb-true, ltb-false, leb-true, leb-false, eqb-true, eqb-false, lt-ltb, le-ltb, eq-eqb, ne_eqb, not-false}
+use lib.Dec.{ltb, eqb}
+use borrow.Author.Tests.{ltb-true, ltb-false, eqb-true, eqb-false, lt-ltb, le-ltb, eq-eqb, ne_eqb, not-false}
 use Rattle.reader.specs.Lists.{sum, same_list}
 use Rattle.reader.specs.Bytes.{number_at}
 use Rattle.reader.specs.Family.{Region, Family, leaves, region_count, region, family_of, mark, lengths_offset}
 use Rattle.reader.specs.Nesting.{before}
 use Rattle.reader.specs.Causes.{cause1, cause2, cause3, cause4, cause5, cause6, cause7, cause8, misplaced, first_cause, layout_causes, header_causes, listing_causes}
-use Rattle.reader.proofs.Bools.{test, refuted, and_l, and_r, and_both, or_l, or_r, or_either, or_neither, or_fails_l, or_fails_r, not_fails, not_passes}
+use Rattle.reader.proofs.Bools.{and_l, and_r, and_both, or_l, or_r, or_either, or_neither, or_fails_l, or_fails_r, not_fails}
 use Rattle.reader.proofs.Below.{none_at, none_below}
 use Rattle.reader.proofs.Lists.{same_equal, same_refl}
 use Rattle.reader.proofs.Parsed.{leaves_read, regions_read}
@@ -192,13 +192,6 @@ from_before r q h =
     (λ a. or_l (ltb r.first q.first) (e && l) (lt-ltb r.first q.first a))
     (λ b. or_r (ltb r.first q.first) (e && l) (and_both e l (eq-eqb r.first q.first b.0) (lt-ltb q.last r.last b.1)))
     h
-
-pub not_before_last : (r q : Region) → r.first ≡ q.first → not (before r q) ≡ leb r.last q.last
-not_before_last r q e =
-    ⊎_elim
-    (λ t. rw t (not_passes (before r q) (refuted (before r q) (λ b. ⊎_elim (λ a. omega arith) (λ a. omega (arith, leb-true r.last q.last t)) (is_before_lem r q b)))))
-    (λ f. rw f (not_fails (before r q) (from_before r q (inr (e, leb-false r.last q.last f)))))
-    (test (leb r.last q.last))
 
 module _ (F : Family) where
   pub regions_placed : cause7 F ≡ false → (k : ℕ) → k < region_count F → OnLeaves (leaves F) (region F k)

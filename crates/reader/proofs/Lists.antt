@@ -8,7 +8,6 @@
 --   same_refl         the test `same_list` passes for a list and itself
 --   same_equal        lists for which it passes are equal
 --   not_same          it fails for lists that are not equal
---   same_all          it passes for lists of one length that agree at every place
 --   same_is           it passes for equal lists
 --   pointwise_same    it is the library's test that two slices are equal, and so is it with the lists the other way round (pointwise_swap)
 --   copy_more         a copy of the front of one list into another, one element further
@@ -27,7 +26,7 @@ use mathlib.Core.List.{List, [], ◌∷◌, ◌++◌, map}
 use mathlib.Core.Path.{◌≡◌, refl, sym, ap, ◌∙◌}
 use mathlib.Core.Logic.{⊎_elim}
 use lib.ListN.{length, get_or, take, drop, set, replicate}
-use lib.Seq.{ext_get_or, drop-cons, take-suc, set_at, append_snoc, drop-set-lt, length-take-le, get_or-set_same, get_or-set_other}
+use lib.Seq.{drop-cons, take-suc, set_at, append_snoc, drop-set-lt, length-take-le, get_or-set_same, get_or-set_other}
 use lib.Dec.{eqb}
 use borrow.Author.Tests.{eqb-true, eq-eqb}
 use Rattle.std.specs.Prelude.{nat_eq, MatchBool}
@@ -88,9 +87,6 @@ same_equal (x ∷ l) (y ∷ k) h =
 
 pub not_same : (l k : List ℕ) → (l ≡ k → ⊥) → same_list l k ≡ false
 not_same l k h = refuted (same_list l k) (λ t. h (same_equal l k t))
-
-pub same_all : (l k : List ℕ) → length l ≡ length k → ((i : ℕ) → i < length l → get_or l i 0 ≡ get_or k i 0) → same_list l k ≡ true
-same_all l k e h = rw (ext_get_or 0 l k e h) (same_refl k)
 
 pub same_is : (l k : List ℕ) → l ≡ k → same_list l k ≡ true
 same_is l k e = rw e (same_refl k)

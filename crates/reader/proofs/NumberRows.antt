@@ -1,7 +1,6 @@
 -- Numbers written in a row over a list of bytes.
-use Prim.Native.Nat.{ℕ, suc, min, ◌+◌, ◌-◌, ◌*◌, ◌/◌, ◌%◌, ◌<◌, ◌≤◌}
+use Prim.Native.Nat.{ℕ, suc, ◌+◌, ◌-◌, ◌*◌, ◌/◌, ◌%◌, ◌<◌, ◌≤◌}
 use mathlib.Core.List.{List, [], ◌∷◌, ◌++◌, append_assoc}
-use mathlib.Core.Logic.{⊎_elim}
 use mathlib.Core.Path.{◌≡◌, refl, sym, ap, ◌∙◌}
 use native.Mathlib.Nat.{add-zero}
 use native.Mathlib.Numerals.{add-one}
@@ -10,7 +9,6 @@ use lib.ListN.{length, get_or, take, drop, set, length-set, take-append-drop}
 use lib.Seq.{sets-eq, drop-drop, sets, length-sets, length-take-le, take-suc, set_out}
 use Rattle.reader.specs.Bytes.{bytes_of, with_numbers}
 use Rattle.reader.specs.Family.{Region, region_fields}
-use Rattle.reader.proofs.Members.{le_or_lt}
 use Rattle.reader.proofs.Files.{length_bytes}
 
 pub bytes_join : (ns ms : List ℕ) → bytes_of (ns ++ ms) ≡ bytes_of ns ++ bytes_of ms
@@ -86,19 +84,3 @@ numbers_past out at ns i h past =
   where
     none : (l : List ℕ) (i : ℕ) (ms : List ℕ) → length l ≤ i → with_numbers l i ms ≡ l
     none l i ms h = unfold with_numbers in sets_past l i (bytes_of ms) h
-
--- the first i numbers, and the next one at its place or, where that lies past the end, at the end
-pub numbers_more : (out : List ℕ) (at : ℕ) (ns : List ℕ) (i : ℕ) → i < length ns
-    → with_numbers (with_numbers out at (take i ns)) (min (at + 2 * i) (length out)) (get_or ns i 0 ∷ []) ≡ with_numbers out at (take (i + 1) ns)
-numbers_more out at ns i h =
-    let n = get_or ns i 0 in
-    let front = with_numbers out at (take i ns) in
-    ⊎_elim
-    (λ (g : length out ≤ at + 2 * i).
-    sym (no_byte_put front (min (at + 2 * i) (length out)) n (omega (arith, numbers_length out at (take i ns))))
-    ∙ numbers_past out at ns i (omega arith) g
-    ∙ sym (numbers_past out at ns (i + 1) (omega arith) (omega arith)))
-    (λ (l : at + 2 * i < length out).
-    let inside : min (at + 2 * i) (length out) ≡ at + 2 * i = omega arith in
-    ap (λ (k : ℕ). with_numbers front k (n ∷ [])) inside ∙ numbers_next out at ns i h)
-    (le_or_lt (length out) (at + 2 * i))

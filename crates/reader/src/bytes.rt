@@ -68,7 +68,7 @@ pub fn put_number(out: &mut [u8], at: usize, n: u16)
     if at < end - 1 {
         put_within(out, at, n);
     } else {
-        put_byte(out, at, (n % 256) as u8);
+        put_byte(out, at, n.to_le_bytes()[0]);
     }
 }
 
@@ -77,10 +77,13 @@ pub fn put_numbers(out: &mut [u8], at: usize, numbers: &[u16])
     ensures { out.new ≡ with_numbers out.old at numbers.now }
 {
     let end = out.len();
-    let mut place = at.min(end);
+    let mut place = at;
     for n in numbers {
+        if end <= place {
+            return;
+        }
         put_number(out, place, *n);
-        place = end.min(place + 2);
+        place += 2;
     }
 }
 

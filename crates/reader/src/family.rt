@@ -105,7 +105,8 @@ pub(crate) fn region_within(file: &[u8], k: u16) -> Region
     }
 }
 
-// The k-th region, counted from 0; all fields 0 where the file has no such region. What lies past the end counts as 0.
+// The k-th region, counted from 0; all fields 0 where the file has no such region. What lies past the end counts as 0. The record of a
+// region is written out twice, here and above: one function for both readings would need a line of contract for each that it saves.
 pub fn region_of(file: &[u8], k: u16) -> Region
     ensures { held result ≡ region (family_of file.now) k }
 {

@@ -1,5 +1,6 @@
 // How the regions nest: the parent of each region, and causes 9 and 10. In file order the innermost region around
 // a region is found by climbing along the parents from the region before it, so all climbs together are linear.
+// Regions are numbered from 1, with 0 for none, as in the parents that are handed out, whose form is fixed.
 ghost use Rattle.std.specs.Prelude.{◌≡◌, ℕ, ◌<◌, ◌≤◌, length, get_or};
 ghost use Rattle.reader.specs.Family.{family_of, region, region_count};
 ghost use Rattle.reader.specs.Causes.{cause10};

@@ -1,6 +1,6 @@
 -- The order of the numbers of IEEE 754, for the comparisons that rules and causes are written with.
---   not_itself         only what is not a number differs from itself
---   finite_is          what is a number and none of the two infinities is finite
+--   finite_is          what is not finite, in std's word
+--   scale_is           what is outside 0 to 1, or no number, is not from 0 to 1
 --   none_between       no number lies from one number to a smaller one
 --   zero_number, zero_not_under   a zero, of either sign, is a number, and not under 0
 --   zero_first         a p-value that is not refused is at least either zero
@@ -9,31 +9,49 @@
 use Prim.Native.Nat.{ℕ, ◌+◌, ◌*◌, ◌<◌, ◌≤◌}
 use native.Mathlib.Nat.{mul-le-mul_right, eq-or-lt_of_le}
 use native.Mathlib.Omega.{arith}
-use mathlib.Core.Bool.{Bool, true, false, cond, ◌&&◌, ◌||◌, true≢false}
-use mathlib.Core.Path.{◌≡◌, refl, sym}
+use mathlib.Core.Bool.{Bool, true, false, cond, not, ◌&&◌, ◌||◌, true≢false}
+use mathlib.Core.Path.{◌≡◌, refl, sym, ◌∙◌}
 use mathlib.Core.Logic.{⊎_elim}
 use lib.IntN.{ℤ, pos}
 use lib.Dec.{eqb, ltb}
-use lib.Ieee.{Float, nan, inf, fin, up, down, below, level, lt, le, eq, ne, neg, is_nan, odd, of_fields, of_bits}
+use lib.Ieee.{Float, nan, inf, fin, up, down, below, level, lt, le, eq, neg, is_nan, odd, of_fields, of_bits}
 use lib.Ieee.Fits.{down_pos}
 use borrow.Author.Tests.{ltb-true, ltb-false, lt-ltb, eqb-true, eq-eqb}
-use Rattle.reader.proofs.Bools.{clash, refuted, and_l, and_r, and_both, or_l, or_r, or_either, or_fails_l, or_fails_r}
+use Rattle.std.specs.Float.{NotNan, float_is_finite}
+use Rattle.std.proofs.lemmas.Float.{T_from_true, T_from_false, lt_irrefl, lt_of_lt_of_le, lt_of_not-le}
+use Rattle.reader.proofs.Bools.{test, clash, refuted, and_l, and_r, and_both, or_l, or_r, or_either, or_fails_l, or_fails_r}
 use Rattle.volcano.specs.Rules.{zero, one, off_scale, not_finite}
 
-pub not_itself : (x : Float) → ne x x ≡ is_nan x
-unfolding ne eq is_nan
-not_itself nan = refl
-not_itself (inf true) = refl
-not_itself (inf false) = refl
-not_itself (fin true m e) = rw (eq-eqb (m * up e * down e) (m * up e * down e) refl)
-not_itself (fin false m e) = rw (eq-eqb (m * up e * down e) (m * up e * down e) refl)
-
-pub finite_is : (x : Float) → is_nan x || (eq x (inf false) || eq x (neg (inf false))) ≡ not_finite x
-unfolding is_nan eq neg not_finite
+pub finite_is : (x : Float) → not (float_is_finite x) ≡ not_finite x
+unfolding float_is_finite not_finite
 finite_is nan = refl
-finite_is (inf true) = refl
-finite_is (inf false) = refl
+finite_is (inf s) = refl
 finite_is (fin s m e) = refl
+
+-- Of two numbers, one is at most the other, or the other is under it.
+number_order : (x y : Float) → NotNan x → NotNan y → not (le x y) ≡ lt y x
+number_order x y a b =
+    ⊎_elim
+    (λ (e : le x y ≡ true).
+    rw e (sym (refuted (lt y x) (λ h. lt_irrefl y (lt_of_lt_of_le y x y (T_from_true (lt y x) h) (T_from_true (le x y) e))))))
+    (λ (e : le x y ≡ false).
+    rw e (sym (⊎_elim (λ t. t) (λ f. absurd (rw f at (lt_of_not-le x y a b (T_from_false (le x y) e)))) (test (lt y x)))))
+    (test (le x y))
+
+not_both : (a b : Bool) → not (a && b) ≡ not a || not b
+not_both true b = refl
+not_both false b = refl
+
+number_scale : (p : Float) → NotNan p → not (le zero p && le p one) ≡ lt p zero || lt one p
+unfolding of_bits of_fields odd is_nan
+number_scale p h =
+    not_both (le zero p) (le p one) ∙ rw (number_order zero p tt h, number_order p one h tt) refl
+
+pub scale_is : (p : Float) → not (le zero p && le p one) ≡ off_scale p
+unfolding off_scale is_nan le lt eq of_bits of_fields odd
+scale_is nan = refl
+scale_is (inf s) = number_scale (inf s) tt
+scale_is (fin s m e) = number_scale (fin s m e) tt
 
 -- A signed number, as what it has above zero and what it has below.
 

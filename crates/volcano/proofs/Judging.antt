@@ -1,20 +1,21 @@
 -- Causes 2 and 17 to 19: the first that holds, and what is known where none does. Where 17 does not hold, the lengths match; where 18
 -- does not, no row is refused.
-use Prim.Native.Nat.{ℕ, ◌+◌, ◌<◌, ◌≤◌}
-use native.Mathlib.Numerals.{add-one}
+use Prim.Native.Nat.{ℕ, ◌<◌, ◌≤◌}
 use native.Mathlib.Omega.{arith}
 use mathlib.Core.Bool.{Bool, true, false, not, cond, ◌||◌}
 use mathlib.Core.List.{List}
-use mathlib.Core.Path.{◌≡◌, refl}
+use mathlib.Core.Path.{◌≡◌, refl, sym}
 use lib.ListN.{length, get_or}
 use lib.Dec.{eqb}
 use lib.Ieee.{Float, nan}
 use borrow.Author.Tests.{eqb-true, ltb-false, not-false}
+use Rattle.std.specs.List.{list_any}
+use Rattle.std.proofs.lemmas.List.Recursion.{or_is}
 use Rattle.reader.specs.Causes.{first_cause, cause2}
 use Rattle.reader.specs.Calls.{short}
 use Rattle.reader.specs.Lists.{some_below}
 use Rattle.reader.proofs.Bools.{or_fails_l, or_fails_r}
-use Rattle.reader.proofs.Below.{none_at}
+use Rattle.reader.proofs.Below.{found, none_at}
 use Rattle.reader.proofs.First.{head_clear}
 use Rattle.bounds.proofs.Basics.Members.{bit}
 use Rattle.volcano.specs.Rules.{passes, row_at, off_scale, not_finite, cause17, cause18, cause19}
@@ -28,28 +29,18 @@ p_off ps i = off_scale (get_or ps i nan)
 abbrev pub fold_off : List Float → ℕ → Bool
 fold_off folds i = not_finite (get_or folds i nan)
 
-regroup : (a b c d : Bool) → (a || b) || (c || d) ≡ (a || c) || (b || d)
-regroup true b c d = refl
-regroup false true true d = refl
-regroup false true false d = refl
-regroup false false c d = refl
-
--- one of the first n rows is refused
-unfoldable pub bad_below : List Float → List Float → ℕ → Bool
-bad_below ps folds n = some_below n (p_off ps) || some_below n (fold_off folds)
+-- an element of a list passes the test exactly if one of some place does
+any_below : {A : Type 0} (t : A → Bool) (d : A) (L : List A) → list_any t L ≡ some_below (length L) (λ i. t (get_or L i d))
+any_below t d L =
+    let at : ℕ → Bool = λ i. t (get_or L i d) in
+    sym
+    (or_is (list_any t) t refl (λ x xs. refl) L d (some_below (length L) at)
+    (found at (length L)) (λ e i l. none_at at (length L) i e l))
 
 module _ (ps folds : List Float) where
-  pub rows_none : bad_below ps folds 0 ≡ false
-  unfolding bad_below some_below
-  rows_none = refl
-
-  pub rows_more : (n : ℕ) (before here : Bool) → before ≡ bad_below ps folds n → here ≡ p_off ps n || fold_off folds n → before || here ≡ bad_below ps folds (n + 1)
-  unfolding bad_below some_below
-  rows_more n before here h k = rw (h, k, add-one n) (regroup (some_below n (p_off ps)) (some_below n (fold_off folds)) (p_off ps n) (fold_off folds n))
-
-  pub rows_all : (n : ℕ) → n ≡ length ps → n ≡ length folds → bad_below ps folds n ≡ cause18 ps folds
-  unfolding bad_below cause18
-  rows_all n e k = rw (← e, ← k)
+  pub rows_judged : list_any off_scale ps || list_any not_finite folds ≡ cause18 ps folds
+  unfolding cause18
+  rows_judged = rw (any_below off_scale nan ps, any_below not_finite nan folds)
 
 pub lengths_match : (m : ℕ) (ps folds : List Float) (room : ℕ) → cause17 m ps folds room ≡ false → (length ps ≡ m) × (length folds ≡ m) × (m ≤ room)
 unfolding cause17 short

@@ -26,6 +26,7 @@ pub enum Rule {
 }
 
 // Whether a row passes the rule.
+#[tactic(auto, unfolding(crate::specs::Rules::passes))]
 pub fn passes(rule: Rule, row: Row) -> bool
     ensures { result ≡ rules.passes rule row }
 {
@@ -41,12 +42,12 @@ fn write_chosen(p_values: &[f64], folds: &[f64], rule: Rule, out: &mut [u8])
     requires { (length p_values.now ≡ length folds.now) × (length p_values.now ≤ length out.old) }
     ensures { out.new ≡ chosen rule p_values.now folds.now ++ drop (length p_values.now) out.old }
 {
-    let mut i = 0;
-    while i < p_values.len() {
-        let p = p_values[i];
-        let fold = folds[i];
-        out[i] = passes(rule, Row { p, fold }) as u8;
-        i += 1;
+    for (i, p) in p_values.iter().enumerate() {
+        let row = Row {
+            p: *p,
+            fold: folds[i],
+        };
+        out[i] = u8::from(passes(rule, row));
     }
 }
 

@@ -78,16 +78,23 @@ module _ (file path values marks : List ℕ) where
   -- the answer, what stands in the lent lists afterwards, and whether the answer is a refusal
   abbrev pub CurveDone : Report → List ℕ → List ℕ → Bool → Type 0
   CurveDone r v w declined =
-      (r ≡ path_answer (curve_causes file path values marks) path [])
-      × (CurveValuesWrites file path values marks v
-      × (CurveMarksWrites file path values marks w
-      × (declined ≡ not (eqb (first_cause (curve_causes file path values marks)) 0))))
+      record {
+        curve_answers : r ≡ path_answer (curve_causes file path values marks) path [];
+        curve_values_writes : CurveValuesWrites file path values marks v;
+        curve_marks_writes : CurveMarksWrites file path values marks w;
+        curve_declines : declined ≡ not (eqb (first_cause (curve_causes file path values marks)) 0);
+      }
 
   curve_stops : (r : Report) → r ≡ path_answer (curve_causes file path values marks) path [] → (first_cause (curve_causes file path values marks) ≡ 0 → ⊥)
       → CurveDone r values marks true
   curve_stops r a some =
       let cs : List Cause = curve_causes file path values marks in
-      (a, (sym (leaves_unchanged cs some _ values), (sym (leaves_unchanged cs some _ marks), sym (not_passes (eqb (first_cause cs) 0) (ne_eqb (first_cause cs) 0 some)))))
+      record {
+        curve_answers = a;
+        curve_values_writes = sym (leaves_unchanged cs some _ values);
+        curve_marks_writes = sym (leaves_unchanged cs some _ marks);
+        curve_declines = sym (not_passes (eqb (first_cause cs) 0) (ne_eqb (first_cause cs) 0 some));
+      }
 
   pub curve_refuses : (r : Report) → InputRefused file path r → CurveDone r values marks true
   unfolding curve_causes
@@ -107,16 +114,13 @@ module _ (file path values marks : List ℕ) where
   unfolding curve_causes curve_values curve_marks
   curve_writes v w e s ev ew =
       let F : Family = family_of file in
-      let first = none_holds file path _ e s in (
-        sym (path_answers _ path [] first),
-        (
-          ev ∙ rw (writes _ first (curve_values F path) values, length_tabulate (length path + 1) (entry F path)),
-          (
-            ew ∙ rw (writes _ first (curve_marks F path) marks, length_tabulate (length path) (λ i. mark_at F path (i + 1))),
-            sym (not_fails _ (eq-eqb _ 0 first)),
-          ),
-        ),
-      )
+      let first = none_holds file path _ e s in
+      record {
+        curve_answers = sym (path_answers _ path [] first);
+        curve_values_writes = ev ∙ rw (writes _ first (curve_values F path) values, length_tabulate (length path + 1) (entry F path));
+        curve_marks_writes = ew ∙ rw (writes _ first (curve_marks F path) marks, length_tabulate (length path) (λ i. mark_at F path (i + 1)));
+        curve_declines = sym (not_fails _ (eq-eqb _ 0 first));
+      }
 
   -- With room for the largest path, a call is declined by the causes of the family and the path alone: the refusal is then that of every
   -- call that tries these first.

@@ -19,7 +19,7 @@ use Rattle.bounds.specs.Bound.{total, value}
 use Rattle.bounds.specs.Selections.{selected, bound_of}
 use Rattle.bounds.specs.declared.cursor.Cursor.{Cursor}
 use Rattle.bounds.specs.declared.cursor.Counted.{Counted}
-use Rattle.bounds.specs.Private.Rows.{row_range, leaf_before, last_leaf, begins_by, Ready, OnLeaf, PassedTo, WalkedOver, Stored, RegionWalked, RowWalked, RegionReady, RowReady, LineWalked}
+use Rattle.bounds.specs.Private.Rows.{row_range, leaf_before, last_leaf, BeginsBy, BeginsAfter, Ready, OnLeaf, PassedTo, WalkedOver, Stored, RegionWalked, RowWalked, RegionReady, RowReady, LineWalked}
 use Rattle.reader.proofs.Walk.{nothing_before}
 use Rattle.bounds.proofs.Basics.Members.{le_or_lt}
 use Rattle.bounds.proofs.Theory.Totals.{bound_is}
@@ -55,23 +55,6 @@ module _ {F : Family} {selection : List ℕ} where
 pub passed_to : {F : Family} {selection : List ℕ} {c : Cursor} {r : Counted} {k l : ℕ} → k ≡ l → PassedTo F selection c k r → PassedTo F selection c l r
 passed_to e p = rw e at p
 
-begins_facts : (F : Family) (k last : ℕ) → begins_by F k last ≡ true → (k < region_count F) × ((region F k).first ≤ last)
-unfolding begins_by
-begins_facts F k last e = (
-  ltb-true k (region_count F) (and_l (ltb k (region_count F)) (leb (region F k).first last) e),
-  leb-true (region F k).first last (and_r (ltb k (region_count F)) (leb (region F k).first last) e),
-)
-
-begins_not : (F : Family) (k last : ℕ) → begins_by F k last ≡ false → k < region_count F → last < (region F k).first
-unfolding begins_by
-begins_not F k last e l =
-    ⊎_elim (λ f. absurd (omega (arith, ltb-false k (region_count F) f))) (λ f. leb-false (region F k).first last f)
-    (and_fails (ltb k (region_count F)) (leb (region F k).first last) e)
-
--- what the test in the code says, once its answer is known
-pub begun : (F : Family) (k : ℕ) {last l : ℕ} {b x : Bool} → b ≡ begins_by F k last → last ≡ l → b ≡ x → begins_by F k l ≡ x
-begun F k e q h = rw (← q) (sym e ∙ h)
-
 -- The walk along the row that begins at region b, after `start` peptides, has come to the cursor c with the count n.
 -- What is counted is the values of the parts passed, and all that is selected up to the cursor but in none of them.
 pub record Along (F : Family) (selection : List ℕ) (b start : ℕ) (c : Cursor) (n : ℕ) : Type 0 where
@@ -104,7 +87,7 @@ module _ {F : Family} (w : WellFormed F) where
 
 module _ {F : Family} {selection : List ℕ} (w : WellFormed F) where
   -- It starts,
-  pub row_starts : (c : Cursor) (last : ℕ) (totals : List ℕ) → RowReady F selection totals c last → Along F selection c.region c.peptide.0 c 0
+  pub row_starts : (c : Cursor) (last : ℕ) (totals : List ℕ) → RowReady F totals c last → Along F selection c.region c.peptide.0 c 0
   row_starts c last totals r =
       let b = c.region in
       let ends = leaf_before_lem w b r.here in
@@ -121,17 +104,12 @@ module _ {F : Family} {selection : List ℕ} (w : WellFormed F) where
 
   module _ (b start : ℕ) (c : Cursor) (n : ℕ) (a : Along F selection b start c n) where
     -- comes to a region,
-    pub row_meets : begins_by F c.region (last_leaf F b) ≡ true → (c.region < region_count F) × (c.leaf.0 < (region F c.region).first)
-    row_meets e = let h = begins_facts F c.region (last_leaf F b) e in (h.0, a.ahead h.0)
-
-    pub region_meets : (totals : List ℕ) (p : Counted) → Ready F selection → region_count F ≤ length totals → begins_by F c.region (last_leaf F b) ≡ true
-        → PassedTo F selection c ((region F c.region).first - 1) p → RegionReady F selection totals p.at
-    region_meets totals p r room e q =
-        let h = begins_facts F c.region (last_leaf F b) e in
+    pub region_meets : (totals : List ℕ) (p : Counted) → region_count F ≤ length totals → BeginsBy F c.region (last_leaf F b)
+        → PassedTo F selection c ((region F c.region).first - 1) p → RegionReady F totals p.at
+    region_meets totals p room e q =
         record {
-          ready = r;
           room = room;
-          here = omega (arith, q.region, h.0);
+          here = omega (arith, q.region, e.some);
           leaf = q.leaf ∙ ap (λ (k : ℕ). (region F k).first - 1) (sym q.region);
           peptide = q.peptide ∙ ap (peptides_up_to F) (sym q.leaf);
         }
@@ -148,15 +126,16 @@ module _ {F : Family} {selection : List ℕ} (w : WellFormed F) where
         omega (arith, a.few, card_most c.peptide.0 S, a.on_leaf, leaf_most w c.leaf.0 a.on_leaf.leaf, w.peptides_most)
 
     -- goes on after it,
-    pub row_steps : (p q : Counted) (old new : List ℕ) → begins_by F c.region (last_leaf F b) ≡ true
+    pub row_steps : (p q : Counted) (old new : List ℕ) → BeginsBy F c.region (last_leaf F b)
         → PassedTo F selection c ((region F c.region).first - 1) p → RegionWalked F selection old new p.at q
-        → Along F selection b start q.at (n + p.count + q.count)
+        → Along F selection b start q.at (n + (p.count + q.count))
     row_steps p q old new e passed walk =
         let S = selected selection in
         let m = F.peptides in
         let R = ranges_of F in
         let j = c.region in
-        let (l, first) = begins_facts F j (last_leaf F b) e in
+        let l = e.some in
+        let first = e.first in
         let same = passed.region in
         let here : q.count ≡ value m R S (range_at F j) = walk.value ∙ ap (λ (k : ℕ). value m R S (range_at F k)) same in
         let leaf : q.at.leaf.0 ≡ (region F j).last = walk.leaf ∙ ap (λ (k : ℕ). (region F k).last) same in
@@ -193,7 +172,7 @@ module _ {F : Family} {selection : List ℕ} (w : WellFormed F) where
             (le_or_lt j i)
 
     -- and ends.
-    pub row_ends : (r : Counted) → b ≤ region_count F → start ≡ peptides_up_to F (leaf_before F b) → begins_by F c.region (last_leaf F b) ≡ false
+    pub row_ends : (r : Counted) → b ≤ region_count F → start ≡ peptides_up_to F (leaf_before F b) → BeginsAfter F c.region (last_leaf F b)
         → PassedTo F selection c (last_leaf F b) r
         → (n + r.count ≡ total F.peptides (ranges_of F) (selected selection) (row_range F b))
         × (n + r.count + card start (selected selection) ≤ card r.at.peptide.0 (selected selection))
@@ -205,7 +184,7 @@ module _ {F : Family} {selection : List ℕ} (w : WellFormed F) where
         let j = c.region in
         let K = region_count F in
         let beyond : (k : ℕ) → j ≤ k → k < K → last_leaf F b < (region F k).first =
-        λ k x u. ⊎_elim (λ q. rw (← q) (begins_not F j (last_leaf F b) e (omega arith))) (λ less. omega (arith, begins_not F j (last_leaf F b) e (omega arith), w.ordered.rising j k less u)) (eq-or-lt_of_le x) in
+        λ k x u. ⊎_elim (λ q. rw (← q) (e (omega arith))) (λ less. omega (arith, e (omega arith), w.ordered.rising j k less u)) (eq-or-lt_of_le x) in
         let rest : (f : Range → ℕ) → part_sum F b f K ≡ part_sum F b f j =
         λ f. part_sum_none w b f j K a.most (λ k x u. part_after w b k h u (beyond k x u)) in
         let all = rw (← from, ← passed.peptide) at (row_total w S b h) in (
@@ -215,13 +194,18 @@ module _ {F : Family} {selection : List ℕ} (w : WellFormed F) where
             forward = omega (arith, a.forward, passed.region);
             most = omega (arith, a.most, passed.region);
             within = λ k x u. omega (arith, a.ended k x (omega (arith, passed.region)), a.here, w.ordered.first_last k (omega (arith, a.most, passed.region)));
-            ahead = λ u. rw passed.region (begins_not F j (last_leaf F b) e (omega (arith, passed.region)));
+            ahead = λ u. rw passed.region (e (omega (arith, passed.region)));
           },
         )
 
+  -- what is counted after one region more
+  pub step_fits : (b start : ℕ) (c : Cursor) (n : ℕ) → Along F selection b start c n → (p q : Counted) (old new : List ℕ) → BeginsBy F c.region (last_leaf F b)
+      → PassedTo F selection c ((region F c.region).first - 1) p → RegionWalked F selection old new p.at q → n + (p.count + q.count) ≤ 4096
+  step_fits b start c n a p q old new e passed walk = row_fits b start q.at _ (row_steps b start c n a p q old new e passed walk)
+
   -- All that the row's call promises, with the totals stored on the way.
   pub row_finishes : (s c : Cursor) (n : ℕ) (r : Counted) (old new : List ℕ) (last v : ℕ) → Along F selection s.region s.peptide.0 c n
-      → RowReady F selection old s last → begins_by F c.region last ≡ false → PassedTo F selection c last r → Stored F selection old new s.region c.region
+      → RowReady F old s last → BeginsAfter F c.region last → PassedTo F selection c last r → Stored F selection old new s.region c.region
       → v ≡ n + r.count → RowWalked F selection old new s (record { count = v; at = r.at })
   row_finishes s c n r old new last v a ready e passed stored ev =
       let b = s.region in
@@ -242,13 +226,12 @@ module _ {F : Family} {selection : List ℕ} (w : WellFormed F) where
 abbrev pub entered : Cursor → Cursor
 entered c = record { region = c.region + 1; leaf = c.leaf; peptide = c.peptide }
 
-module _ {F : Family} {selection : List ℕ} where
-  pub region_row : (c : Cursor) (totals : List ℕ) (last : ℕ) → RegionReady F selection totals c → last ≡ (region F c.region).last
-      → RowReady F selection totals (entered c) last
+module _ {F : Family} where
+  pub region_row : (c : Cursor) (totals : List ℕ) (last : ℕ) → RegionReady F totals c → last ≡ (region F c.region).last
+      → RowReady F totals (entered c) last
   unfolding leaf_before last_leaf
   region_row c totals last r e =
       record {
-        ready = r.ready;
         room = r.room;
         here = omega (arith, r.here);
         leaf = rw add-one r.leaf;
@@ -256,7 +239,8 @@ module _ {F : Family} {selection : List ℕ} where
         ends = rw add-one e;
       }
 
-  pub region_finishes : (c : Cursor) (old new : List ℕ) (z v : ℕ) (r : Counted) → RegionReady F selection old c → length new ≡ length old
+module _ {F : Family} {selection : List ℕ} where
+  pub region_finishes : (c : Cursor) (old new : List ℕ) (z v : ℕ) (r : Counted) → RegionReady F old c → length new ≡ length old
       → z ≡ (region F c.region).z → v ≡ min z r.count → RowWalked F selection old new (entered c) r
       → RegionWalked F selection old (set new c.region r.count) c (record { count = v; at = r.at })
   unfolding value row_range last_leaf
@@ -276,13 +260,12 @@ module _ {F : Family} {selection : List ℕ} where
 
 -- The whole line.
 
-module _ {F : Family} {selection : List ℕ} where
-  pub line_row : (c : Cursor) (totals : List ℕ) (last : ℕ) → Ready F selection → region_count F ≤ length totals
-      → c.region ≡ 0 → c.leaf.0 ≡ 0 → c.peptide.0 ≡ 0 → last ≡ leaves F → RowReady F selection totals c last
+module _ {F : Family} where
+  pub line_row : (c : Cursor) (totals : List ℕ) (last : ℕ) → region_count F ≤ length totals
+      → c.region ≡ 0 → c.leaf.0 ≡ 0 → c.peptide.0 ≡ 0 → last ≡ leaves F → RowReady F totals c last
   unfolding leaf_before last_leaf
-  line_row c totals last r room first leaf peptide e =
+  line_row c totals last room first leaf peptide e =
       record {
-        ready = r;
         room = room;
         here = omega arith;
         leaf = rw first leaf;
@@ -290,6 +273,7 @@ module _ {F : Family} {selection : List ℕ} where
         ends = rw first e;
       }
 
+module _ {F : Family} {selection : List ℕ} where
   -- no region is after the last leaf
   pub line_finishes : (c : Cursor) (r : Counted) (old new : List ℕ) → Ready F selection → c.region ≡ 0 → RowWalked F selection old new c r
       → LineWalked F selection old new r.count

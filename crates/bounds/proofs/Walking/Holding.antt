@@ -1,20 +1,22 @@
 -- The regions that hold a leaf: the last of them, and the chain of parents that leads from it to all others.
 use Prim.Native.Nat.{ℕ, suc, ◌+◌, ◌-◌, ◌<◌, ◌≤◌}
 use mathlib.Core.Bool.{Bool, true, false, cond, ◌&&◌}
-use mathlib.Core.List.{List}
+use mathlib.Core.List.{List, ◌++◌}
 use mathlib.Core.Logic.{◌⊎◌, inl, inr, ⊎_elim}
-use mathlib.Core.Path.{◌≡◌, refl, sym, subst, ◌∙◌}
+use mathlib.Core.Path.{◌≡◌, refl, sym, ap, subst, ◌∙◌}
 use native.Mathlib.Nat.{eq-or-lt_of_le}
 use native.Mathlib.Omega.{arith}
-use lib.ListN.{length, get_or, set, length-set}
-use lib.Seq.{get_or-set_same, get_or-set_other}
+use lib.ListN.{length, get_or, get_or-append, set, length-set, take, drop, length-append, length-drop, replicate, length-replicate}
+use lib.Seq.{get_or-set_same, get_or-set_other, get_or-take, get_or-drop, length-take-le}
+use Rattle.std.proofs.lemmas.List.{get_or-append_right, get_or-replicate}
 use lib.Dec.{leb, eqb}
+use borrow.Rule.Slice.PartMut.{put_mid}
 use borrow.Author.Tests.{leb-true, le-leb, lt-leb, eqb-true, eq-eqb}
 use Rattle.reader.specs.Family.{Family, region_count, region, leaf_of}
 use Rattle.reader.specs.WellFormed.{Ordered, NestedBelow, IsParent}
 use Rattle.reader.proofs.Below.{some_at, none_at, none_below}
 use Rattle.bounds.specs.Holding.{is_between, holds_leaf, LastAmong, LastHolding, PaintedBefore}
-use Rattle.bounds.specs.Private.Walks.{Painted, crowded, OneLess, MarkedNext}
+use Rattle.bounds.specs.Private.Walks.{crowded, OneLess, MarkedNext}
 use Rattle.bounds.proofs.Basics.Members.{test, clash, refuted, and_l, and_r, and_both, le_or_lt}
 
 -- Numbers up to and from a number.
@@ -67,38 +69,46 @@ one_among F n leaf c d h e = ⊎_elim (λ t. here t (e ∙ rw t)) (λ f. before 
 
 -- A number painted from one place to another.
 
-module _ (T : List ℕ) (first number : ℕ) where
-  pub paint_starts : PaintedBefore T first number first T
-  paint_starts = record { same = refl; done = λ i l u. absurd (omega arith); below = λ i l. refl; ahead = λ i l. refl }
+-- what `fill` leaves of a list
+pub filled : (T new : List ℕ) (first number end : ℕ) → first ≤ end → end ≤ length T
+    → new ≡ replicate (length (take (end - first) (drop first T))) number
+    → PaintedBefore T first number end (put_mid first (end - first) T new)
+filled T new first number end order room is =
+    record {
+      same = simp (length-append, front, middle, length-drop) (omega arith);
+      done = λ i l u. get_or-append_right (take first T) (new ++ (drop (end - first) (drop first T))) first i 0 front l ∙ get_or-append new (drop (end - first) (drop first T)) 0 (i - first) (omega (arith, middle)) ∙ rw (is, part) (get_or-replicate (end - first) (i - first) number 0 (omega arith));
+      below = λ i l. get_or-append (take first T) (new ++ (drop (end - first) (drop first T))) 0 i (omega (arith, front)) ∙ get_or-take first T i 0 l;
+      ahead =
+          λ i l.
+          get_or-append_right (take first T) (new ++ (drop (end - first) (drop first T))) first i 0 front (omega arith)
+          ∙ get_or-append_right new (drop (end - first) (drop first T)) (end - first) (i - first) 0 middle (omega arith)
+          ∙ get_or-drop (end - first) (drop first T) (i - first - (end - first)) 0
+          ∙ get_or-drop first T ((end - first) + (i - first - (end - first))) 0
+          ∙ ap (λ (j : ℕ). get_or T j 0) (omega arith);
+    }
+  where
+    front : length (take first T) ≡ first
+    front = length-take-le first T (omega arith)
 
-  pub paint_more : (j : ℕ) (D : List ℕ) → j < length T → first ≤ j → PaintedBefore T first number j D → PaintedBefore T first number (j + 1) (set D j number)
-  paint_more j D h start p =
-      record {
-        same = simp length-set p.same;
-        done =
-            λ i l u.
-            let v : i ≤ j = omega arith in
-            ⊎_elim (λ e. rw e (get_or-set_same D j number 0 (omega (arith, p.same)))) (λ d. get_or-set_other D j i number 0 (λ e. omega arith) ∙ p.done i l d)
-            (eq-or-lt_of_le v);
-        below = λ i l. get_or-set_other D j i number 0 (λ e. omega arith) ∙ p.below i l;
-        ahead = λ i l. get_or-set_other D j i number 0 (λ e. omega arith) ∙ p.ahead i (omega arith);
-      }
+    part : length (take (end - first) (drop first T)) ≡ (end - first)
+    part = length-take-le (end - first) (drop first T) (omega (arith, length-drop first T))
 
-  pub paint_ends : (last j : ℕ) (D : List ℕ) → j ≡ last + 1 → PaintedBefore T first number j D → Painted T first last number D
-  unfolding is_between
-  paint_ends last j D end p =
-      record {
-        same = p.same;
-        written =
-            λ i.
-            ⊎_elim
-            (λ l.
-            ⊎_elim (λ u. p.done i l (omega arith) ∙ sym (rw (le-leb first i l, le-leb i last u)))
-            (λ u. p.ahead i (omega arith) ∙ sym (rw (le-leb first i l, lt-leb i last u)))
-            (le_or_lt i last))
-            (λ l. p.below i l ∙ sym (rw (lt-leb first i l)))
-            (le_or_lt first i);
-      }
+    middle : length new ≡ (end - first)
+    middle = rw is (length-replicate (length (take (end - first) (drop first T))) number ∙ part)
+
+-- a number painted from a first place to a last one
+pub painted_at : (T D : List ℕ) (first last number j : ℕ) → PaintedBefore T first number (last + 1) D
+    → get_or D j 0 ≡ cond (is_between first last j) number (get_or T j 0)
+unfolding is_between
+painted_at T D first last number j p =
+    ⊎_elim
+    (λ l.
+    ⊎_elim
+    (λ u. p.done j l (omega arith) ∙ sym (rw (le-leb first j l, le-leb j last u)))
+    (λ u. p.ahead j (omega arith) ∙ sym (rw (le-leb first j l, lt-leb j last u)))
+    (le_or_lt j last))
+    (λ l. p.below j l ∙ sym (rw (lt-leb first j l)))
+    (le_or_lt first j)
 
 -- The chain of parents from the last region that holds the leaf: all of it holds the leaf, and nothing that it passes by does.
 

@@ -4,7 +4,6 @@ use mathlib.Core.Bool.{Bool, true, false, not, cond}
 use mathlib.Core.List.{List, ◌++◌}
 use mathlib.Core.Logic.{⊎_elim}
 use mathlib.Core.Path.{◌≡◌, refl, sym, subst, ◌∙◌}
-use native.Mathlib.Nat.{mul-le-mul}
 use native.Mathlib.Numerals.{add-one}
 use native.Mathlib.Omega.{arith}
 use lib.ListN.{length, get_or, take}
@@ -201,10 +200,3 @@ pub passing_more : (M : List ℕ) (a b t e cut r : ℕ) → e ≡ marks_up_to M 
     → r ≡ cond (leb (e * b) (a * (t + 1))) (t + 1) cut → r ≡ passing_up_to M a b (t + 1)
 unfolding largest_up_to
 passing_more M a b t e cut r entered before h = h ∙ rw (entered, before, add-one)
-
--- a product of two 16-bit numbers fits 32 bits
-pub product_fits : (a b : ℕ) → a < 65536 → b < 65536 → a * b < 4294967296
-product_fits a b ha hb =
-    let x : a ≤ 65535 = omega arith in
-    let y : b ≤ 65535 = omega arith in
-    omega (arith, mul-le-mul x y)

@@ -32,7 +32,7 @@ slice_bounds-write_bounds-end-in-Ok c =
 
 pub write_bounds-requires : goal.write_bounds-requires
 write_bounds-requires c =
-    let n = no_list_cause _ _ _ _ _ (clear (goal.at.write_bounds-requires c).In-Ok) in record { well_formed = well_formed_lem _ (λ i. omega (arith, c.shared_slice_known-1.given i)) n.accepted; whole = rw (length-take-le c.args.count c.args.values.now n.room) n.whole }
+    let n = no_list_cause _ _ _ _ _ (clear (goal.at.write_bounds-requires c).In-Ok) in record { well_formed = well_formed_lem _ (λ i. omega (arith, c.type_inv.file i)) n.accepted; whole = rw (length-take-le c.args.count c.args.values.now n.room) n.whole }
 
 charge_is : (c : After-charge_of-charge) → c.charge_of-charge.result ≡ charge_of (region_count (family_of c.args.file.now)) c.args.count
 charge_is c = c.charge_of-charge.ensures ∙ ap (λ (K : ℕ). charge_of K c.args.count) c.region_count.ensures

@@ -6,6 +6,7 @@ use Rattle.reader.proofs.Bools.{or_l, or_r, or_neither}
 use Rattle.bounds.specs.Curves.{cause15}
 use Rattle.bounds.proofs.Calls.Answering.{cut_refuses, cut_no_fraction, cut_answers}
 use Rattle.bounds.proofs.cut.Goals as goal
+use Rattle.bounds.proofs.cut.Goals.{then-b-eq0-via-then-b-eq0, then-b-eq0-via-else-b-eq0+then-b-a}
 
 pub returns-in_err-check_path : goal.returns-in_err-check_path
 returns-in_err-check_path c =
@@ -14,12 +15,13 @@ returns-in_err-check_path c =
 pub returns-then-b-eq0 : goal.returns-then-b-eq0
 unfolding cause15
 returns-then-b-eq0 c =
-    cut_no_fraction _ _ _ _ c.in_ok-check_path.ensures.0 (or_l (eqb c.args.b 0) _ (eq-eqb c.args.b 0 c.if-b-eq0.true))
-
-pub returns-then-b-a : goal.returns-then-b-a
-unfolding cause15
-returns-then-b-a c =
-    cut_no_fraction _ _ _ _ c.in_ok-check_path.ensures.0 (or_r (eqb c.args.b 0) _ (lt-ltb c.args.b c.args.a c.if-b-a.true))
+    let a = c.args.a in
+    let b = c.args.b in
+    cut_no_fraction _ _ _ _ c.in_ok-check_path.ensures.0
+    (elim c.then-b-eq0.branch [
+      | then-b-eq0-via-then-b-eq0 w ↦ or_l (eqb b 0) (ltb b a) (eq-eqb b 0 w.if-b-eq0.true)
+      | then-b-eq0-via-else-b-eq0+then-b-a w ↦ or_r (eqb b 0) (ltb b a) (lt-ltb b a w.if-b-a.true)
+    ])
 
 pub returns : goal.returns
 unfolding cause15

@@ -1,5 +1,5 @@
 -- What the private functions that judge a selection and walk along its rows promise each other.
-use Rattle.std.specs.Prelude.{ℕ, zero, suc, ◌+◌, ◌-◌, ◌≤◌, ◌<◌, Bool, ◌&&◌, List, ◌⊎◌, ◌≡◌, length, get_or, leb, ltb}
+use Rattle.std.specs.Prelude.{ℕ, zero, suc, ◌+◌, ◌-◌, ◌≤◌, ◌<◌, List, ◌⊎◌, ◌≡◌, length, get_or}
 use Rattle.reader.specs.Family.{Family, leaves, region_count, region, peptides_up_to}
 use Rattle.reader.specs.WellFormed.{WellFormed}
 use Rattle.bounds.specs.Ranges.{Range, card, range_at, ranges_of}
@@ -27,10 +27,15 @@ last_leaf F zero = leaves F
 last_leaf F (suc i) = (region F i).last
 
 -- there is a k-th region, and it begins at the leaf `last` or before
-unfoldable pub begins_by : Family → ℕ → ℕ → Bool
-begins_by F k last = ltb k (region_count F) && leb (region F k).first last
+pub record BeginsBy (F : Family) (k last : ℕ) : Type 0 where
+  pub some : k < region_count F
+  pub first : (region F k).first ≤ last
 
--- what is known where a selection of the right length is counted in a family
+-- a k-th region begins after the leaf `last`
+abbrev pub BeginsAfter : Family → ℕ → ℕ → Type 0
+BeginsAfter F k last = k < region_count F → last < (region F k).first
+
+-- what a line knows: its family is well-formed, and its selection has the right length
 pub record Ready (F : Family) (selection : List ℕ) : Type 0 where
   pub formed : WellFormed F
   pub whole : length selection ≡ F.peptides
@@ -48,16 +53,14 @@ pub record PassedTo (F : Family) (selection : List ℕ) (c : Cursor) (last : ℕ
   pub counted : r.count + card c.peptide.0 (selected selection) ≡ card r.at.peptide.0 (selected selection)
 
 -- the cursor stands before the region's first leaf
-pub record RegionReady (F : Family) (selection totals : List ℕ) (c : Cursor) : Type 0 where
-  pub ready : Ready F selection
+pub record RegionReady (F : Family) (totals : List ℕ) (c : Cursor) : Type 0 where
   pub room : region_count F ≤ length totals
   pub here : c.region < region_count F
   pub leaf : c.leaf.0 ≡ (region F c.region).first - 1
   pub peptide : c.peptide.0 ≡ peptides_up_to F c.leaf.0
 
 -- the cursor stands before the first leaf of the row that begins at its region
-pub record RowReady (F : Family) (selection totals : List ℕ) (c : Cursor) (last : ℕ) : Type 0 where
-  pub ready : Ready F selection
+pub record RowReady (F : Family) (totals : List ℕ) (c : Cursor) (last : ℕ) : Type 0 where
   pub room : region_count F ≤ length totals
   pub here : c.region ≤ region_count F
   pub leaf : c.leaf.0 ≡ leaf_before F c.region

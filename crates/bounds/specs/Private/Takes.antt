@@ -1,17 +1,15 @@
 -- The taken bytes as the code goes along: from the inside totals of all regions, in file order.
 use Rattle.std.specs.Prelude.{ℕ, zero, suc, Bool, cond, ◌&&◌, List, ◌≡◌, get_or, ltb}
 use Rattle.reader.specs.Lists.{tabulate}
-use Rattle.reader.specs.Family.{Family, region_count, region}
-use Rattle.bounds.specs.declared.taking.Step.{Step}
+use Rattle.reader.specs.Family.{Region, Family, region_count, region}
 
--- the k-th region begins after the leaf `until`, and its z is less than its inside total
+-- a region begins after the leaf `until`, and its z is less than its inside total
+abbrev pub takes_region : Region → ℕ → ℕ → Bool
+takes_region r total until = ltb until r.first && ltb r.z total
+
+-- the k-th region does
 unfoldable pub takes : Family → ℕ → ℕ → ℕ → Bool
-takes F k total until = ltb until (region F k).first && ltb (region F k).z total
-
--- a region's byte, and the last leaf of the latest region taken after it
-pub record TakeDecided (F : Family) (k total until : ℕ) (r : Step) : Type 0 where
-  pub byte : r.byte ≡ cond (takes F k total until) 1 0
-  pub latest : r.until.0 ≡ cond (takes F k total until) (region F k).last until
+takes F k total until = takes_region (region F k) total until
 
 -- the last leaf of the latest region taken among the first k; 0 if there is none
 unfoldable pub taken_until : Family → List ℕ → ℕ → ℕ

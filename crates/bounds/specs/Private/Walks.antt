@@ -9,7 +9,7 @@ use Rattle.reader.specs.WellFormed.{WellFormed, Nested}
 use Rattle.reader.specs.declared.refusal.Refusal.TheVariants.{Repeated}
 use Rattle.bounds.specs.Curves.{cause11, cause12, cause13, first_repeat}
 use Rattle.bounds.specs.Calls.{input_causes, path_refusal}
-use Rattle.bounds.specs.Holding.{is_between, holds_leaf, LastHolding}
+use Rattle.bounds.specs.Holding.{holds_leaf, LastHolding}
 
 -- The path.
 
@@ -51,25 +51,11 @@ Differing path (Err e) = (cause13 path ≡ true) × (e ≡ Repeated (first_repea
 abbrev pub InnermostAtLeaves : Family → List ℕ → Type 0
 InnermostAtLeaves F T = (leaf : ℕ) → LastHolding F leaf (get_or T leaf 0)
 
--- the list D is T with a number written from a first place to a last one
-pub record Painted (T : List ℕ) (first last number : ℕ) (D : List ℕ) : Type 0 where
-  pub same : length D ≡ length T
-  pub written : (j : ℕ) → get_or D j 0 ≡ cond (is_between first last j) number (get_or T j 0)
-
 -- The marks that each region can still take: its z less the marked peptides that it has.
 
 -- some region that holds the leaf can take no more marks
 unfoldable pub crowded : Family → List ℕ → ℕ → Bool
 crowded F S leaf = some_below (region_count F) (λ k. holds_leaf F leaf k && eqb (get_or S k 0) 0)
-
--- c is the number of the last region that holds some leaf, in some family with these parents, and no region that holds it is crowded
-pub record Uncrowded (P S : List ℕ) (c : ℕ) : Type 0 where
-  pub family : Family
-  pub nested : Nested family P
-  pub room : region_count family ≤ length S
-  pub leaf : ℕ
-  pub last : LastHolding family leaf c
-  pub free : crowded family S leaf ≡ false
 
 -- the regions that hold the leaf can take one mark less
 pub record OneLess (F : Family) (S : List ℕ) (leaf : ℕ) (D : List ℕ) : Type 0 where

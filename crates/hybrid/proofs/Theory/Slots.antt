@@ -1,6 +1,6 @@
 -- The Simes bound as taken slots: each peptide of a path takes the last slot that is free up to the last k at which it is counted.
 use Prim.Native.Nat.{ℕ, zero, suc, ◌+◌, ◌-◌, ◌*◌, ◌≤◌, ◌<◌}
-use mathlib.Core.Bool.{Bool, true, false, not, cond, ◌&&◌, and-true, and-false}
+use mathlib.Core.Bool.{Bool, true, false, not, ◌&&◌, and-true, and-false}
 use mathlib.Core.List.{List}
 use mathlib.Core.Logic.{◌≢◌, ◌⊎◌, inl, inr, ⊎_elim}
 use mathlib.Core.Path.{◌≡◌, refl, sym, ap, ◌∙◌}
@@ -148,7 +148,7 @@ module _ {m : ℕ} {path ps : List ℕ} {level : ℕ} (i : SimesInputs m path ps
       let here : Y next ≡ leb k last = rw (after_is next, adding_it next before) (last_counted_is m level (get_or ps (next - 1) 0) k some most) in
       rw here at (card_grows m next X Y (is.some t h) (is.most t h) (rw not_before) (λ p a b d. rw (after_is p, adding_other next before p d)))
 
-  module _ (slots new : List ℕ) (v grown : ℕ) (seated : Seated m ps level before slots v) (taken : Taken slots last new grown) where
+  module _ (slots new : List ℕ) (v : ℕ) (got : Bool) (seated : Seated m ps level before slots v) (taken : Taken slots last new got) where
     abbrev slot : ℕ
     slot = taken.slot
 
@@ -167,10 +167,10 @@ module _ {m : ℕ} {path ps : List ℕ} {level : ℕ} (i : SimesInputs m path ps
         rw here at (card_grows m slot X Y l most (rw taken.found.free (and-false (leb k slot))) others))
         (le_or_lt slot 0)
 
-    grown_is : grown ≡ bit (leb 1 slot)
-    grown_is = taken.counted ∙ go slot
+    got_is : bit got ≡ bit (leb 1 slot)
+    got_is = ap bit (taken.counted ∙ go slot)
       where
-        go : (s : ℕ) → cond (eqb s 0) 0 1 ≡ bit (leb 1 s)
+        go : (s : ℕ) → not (eqb s 0) ≡ leb 1 s
         go zero = refl
         go (suc s) = rw (ne_eqb (suc s) 0 (λ e. omega arith), le-leb 1 (suc s) (omega arith))
 
@@ -187,11 +187,11 @@ module _ {m : ℕ} {path ps : List ℕ} {level : ℕ} (i : SimesInputs m path ps
     free_before k some most free =
         rw (taken.others k (omega (arith, i.few)) (λ e. clash free (rw e (taken.taken (omega arith))))) at free
 
-    pub seated_steps : Seated m ps level (among (take (t + 1) path)) new (v + grown)
+    pub seated_steps : Seated m ps level (among (take (t + 1) path)) new (v + bit got)
     seated_steps =
         record {
           kept = taken.kept;
-          number = omega (arith, seated.number, taken_grows 1 (omega arith), grown_is);
+          number = omega (arith, seated.number, taken_grows 1 (omega arith), got_is);
           most = λ k l u. omega (arith, seated.most k l u, taken_grows k l, counted_grows k l u, bit_mono (leb k slot) (leb k last) (up_to_last k));
           equal = λ k l u free.
               let old = free_before k l u free in

@@ -1,5 +1,5 @@
 -- The Simes bound along a path, as taken slots: what the private functions of `slots` and `simes` promise each other.
-use Rattle.std.specs.Prelude.{ℕ, ◌*◌, ◌<◌, ◌≤◌, min, Bool, true, false, not, cond, ◌&&◌, List, ◌≡◌, length, get_or, take, eqb, leb, ltb}
+use Rattle.std.specs.Prelude.{ℕ, ◌*◌, ◌<◌, ◌≤◌, min, Bool, true, false, not, ◌&&◌, List, ◌≡◌, length, get_or, take, eqb, leb, ltb}
 use Rattle.bounds.specs.Ranges.{Peptides, card}
 use Rattle.bounds.specs.Curves.{among, largest_up_to}
 use Rattle.bounds.specs.Calls.{IsPath}
@@ -32,14 +32,14 @@ pub record Searched (slots : List ℕ) (last : ℕ) (new : List ℕ) (slot : ℕ
   pub same : (q : ℕ) → q < 4097 → is_free new q ≡ is_free slots q
   pub found : LastFree slots last slot
 
--- The last free slot up to a number, if it is not slot 0, is taken; grown is 1 then, else 0.
-pub record Taken (slots : List ℕ) (last : ℕ) (new : List ℕ) (grown : ℕ) : Type 0 where
+-- The last free slot up to a number, if it is not slot 0, is taken; got is true then.
+pub record Taken (slots : List ℕ) (last : ℕ) (new : List ℕ) (got : Bool) : Type 0 where
   pub kept : Slots new
   pub slot : ℕ
   pub found : LastFree slots last slot
   pub others : (q : ℕ) → q < 4097 → (q ≡ slot → ⊥) → is_free new q ≡ is_free slots q
   pub taken : 0 < slot → is_free new slot ≡ false
-  pub counted : grown ≡ cond (eqb slot 0) 0 1
+  pub counted : got ≡ not (eqb slot 0)
 
 -- how many of the slots from k to m are taken
 unfoldable pub taken_from : ℕ → List ℕ → ℕ → ℕ

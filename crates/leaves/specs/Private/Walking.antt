@@ -1,25 +1,17 @@
 -- What the private functions that walk along the leaf lengths ask of each other and promise.
-use Rattle.std.specs.Prelude.{◌≡◌, ℕ, zero, suc, ◌+◌, ◌*◌, ◌<◌, ◌≤◌, ◌⊎◌, List, length, drop}
+use Rattle.std.specs.Prelude.{◌≡◌, ℕ, zero, suc, ◌+◌, ◌*◌, ◌<◌, ◌≤◌, ◌⊎◌, List, drop}
 use Rattle.reader.specs.Bytes.{number_at}
-use Rattle.reader.specs.Family.{Family, family_of, leaves, leaf_after, regions_offset}
-use Rattle.leaves.specs.declared.leaf_walk.Lanes.{Lanes}
+use Rattle.reader.specs.Family.{Family, family_of, leaves, leaf_after}
 
 -- n numbers in a row from an offset, added up
 unfoldable pub added : List ℕ → ℕ → ℕ → ℕ
 added s at zero = 0
 added s at (suc n) = added s at n + number_at s (at + 2 * n)
 
--- the file has all the lengths that its header counts
-abbrev pub LengthsWithin : List ℕ → Type 0
-LengthsWithin s = regions_offset (leaves (family_of s)) ≤ length s
-
 -- r is the sum, or else both are 65,535 or more
 pub record Capped (sum r : ℕ) : Type 0 where
   pub most : r ≤ sum
   pub exact : r < 65535 → r ≡ sum
-
-unfoldable pub lane_sum : Lanes → ℕ
-lane_sum l = l.a + l.b + l.c + l.d + l.e + l.f + l.g + l.h
 
 -- what is to be found after leaf j with p left of the peptide's number is r
 abbrev pub FoundAfter : Family → ℕ → ℕ → ℕ → Type 0
@@ -28,7 +20,6 @@ FoundAfter F j p r = r ≡ leaf_after j (drop j F.lengths) p
 -- After leaf i, with q left, the same is to be found as after leaf j with p left; and it is to be found among the next n leaves
 -- if there are so many.
 pub record Walked (s : List ℕ) (n j p i q : ℕ) : Type 0 where
-  pub leaf : i ≤ leaves (family_of s)
   pub same : leaf_after j (drop j (family_of s).lengths) p ≡ leaf_after i (drop i (family_of s).lengths) q
   pub here : i + n ≤ leaves (family_of s) → q ≤ added s (16 + 2 * i) n
 

@@ -161,8 +161,8 @@ module _ (s O : List ℕ) (d : Distinct s O) where
       ∙ ap (λ (G : Family). level_of G (region F (get_or O i 0))) in_order_lem
       ∙ level_same (in_file_order (distinct F)) (distinct F) (file_order_same (distinct F) (distinct_placed F (no7 s d.sound))) (region F (get_or O i 0))
 
-  pub nesting_of : IsBytes s → (levels : List ℕ) (r : ℕ) → Leveled (file_of (arranged (listed_family s) O)) levels r → 8191 ≤ length levels → Nested s O levels r
-  nesting_of bytes levels r h room =
+  pub nesting_of : IsBytes s → (levels : List ℕ) (r : ℕ) → Leveled (file_of (arranged (listed_family s) O)) levels r → Nested s O levels r
+  nesting_of bytes levels r h =
       record {
         first = h.first ∙ judged bytes;
         leveled =
@@ -170,7 +170,6 @@ module _ (s O : List ℕ) (d : Distinct s O) where
             let F : Family = listed_family s in
             let read = arranged_read s bytes d.headed O numbers_of few_of in
             subst (λ (G : Family). LevelsBelow G levels (region_count G)) read (h.levels z) i (omega (arith, count_arranged F O)) ∙ same_level i l;
-        room = room;
       }
 
   pub left_out : length O < region_count (listed_family s) → cause27 (counts_in s) (listed_family s) ≡ true

@@ -1,5 +1,6 @@
 -- The causes of a PHFL file, one by one.
 --   header_numbered, listing_numbered, form_numbered   no cause has the number 0, which stands for none
+--   to_lacks, from_lacks        nor 13, with which a place comes
 --   LevelsClear                 the header has no cause, and none of the causes 6, 7, 9, 10, 26 and 27 holds
 --   listing_clear, place_clear  where the first of 6 and 7, or of 26 and 27, is 0, neither holds
 --   levels_clear, levels_none   so it is of an accepted file by level; and the way back
@@ -21,7 +22,8 @@ use Rattle.reader.specs.Calls.{short}
 use Rattle.reader.proofs.Bools.{or_r, not_passes}
 use Rattle.reader.proofs.First.{Numbered, head_clear, first_holds, join_clear, clear_left, clear_right}
 use Rattle.reader.proofs.Judged.{header_1}
-use Rattle.reader.proofs.Accepting.{file_numbered, file_header}
+use Rattle.reader.proofs.Accepting.{file_numbered, file_lacks, file_header}
+use Rattle.reader.proofs.Refusals.{Lacks, lacks_joined}
 use Rattle.levels.specs.Levels.{level_mark, listed_family, counts_in, distinct}
 use Rattle.levels.specs.Causes.{cause26, cause27, level_header_causes, nesting_causes, place_causes, form_causes, level_file_causes, AcceptedLevels}
 use Rattle.levels.specs.Calls.{to_levels_causes, from_levels_causes}
@@ -37,6 +39,14 @@ listing_numbered F = omega arith
 pub form_numbered : (s : List ℕ) → Numbered (form_causes s)
 unfolding form_causes level_header_causes nesting_causes
 form_numbered s = omega arith
+
+pub to_lacks : (s : List ℕ) (room : ℕ) → Lacks 13 (to_levels_causes s room)
+unfolding to_levels_causes
+to_lacks s room = lacks_joined 13 (file_causes s) _ (file_lacks s) (omega arith)
+
+pub from_lacks : (s : List ℕ) (room : ℕ) → Lacks 13 (from_levels_causes s room)
+unfolding from_levels_causes form_causes level_header_causes nesting_causes place_causes
+from_lacks s room = omega arith
 
 pub record LevelsClear (s : List ℕ) : Type 0 where
   pub headed : Headed s

@@ -14,6 +14,9 @@ use Rattle.reader.specs.Family.{Family, family_of, region_count, region}
 use Rattle.reader.specs.Causes.{first_cause, file_causes, Accepted}
 use Rattle.reader.specs.Calls.{ParentsWrites}
 use Rattle.reader.specs.WellFormed.{IsParent}
+use Rattle.reader.specs.Refusals.{number_of}
+use Rattle.reader.specs.declared.refusal.Refusal.{Refusal}
+use Rattle.reader.proofs.Refusals.{number_some}
 use Rattle.reader.proofs.Climbing.{depth_outermost, depth_inner}
 use Rattle.reader.proofs.Accepting.{well_formed_lem, accepted_header, few_regions}
 use Rattle.reader.proofs.ParentLaws.{enough_first, parents_given}
@@ -56,5 +59,5 @@ module _ (s : List ℕ) where
   pub leveled_accepted : (L : List ℕ) → Accepted s → LevelsBelow (family_of s) L (region_count (family_of s)) → Leveled s L 0
   leveled_accepted L accepted levels = record { first = sym accepted; levels = λ z. levels }
 
-  pub leveled_refused : (L : List ℕ) (n : ℕ) → n ≡ first_cause (file_causes s) → (n ≡ 0 → ⊥) → Leveled s L n
-  leveled_refused L n e some = record { first = e; levels = λ z. absurd (some z) }
+  pub leveled_refused : (L : List ℕ) (e : Refusal) → number_of e ≡ first_cause (file_causes s) → Leveled s L (number_of e)
+  leveled_refused L e h = record { first = h; levels = λ z. absurd (number_some e z) }

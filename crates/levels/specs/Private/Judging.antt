@@ -20,7 +20,6 @@ pub record Distinct (s order : List ℕ) : Type 0 where
 pub record Nested (s order levels : List ℕ) (r : ℕ) : Type 0 where
   pub first : r ≡ first_cause (nesting_causes (listed_family s))
   pub leveled : r ≡ 0 → (i : ℕ) → i < length order → get_or levels i 0 ≡ level_of (distinct (listed_family s)) (region (listed_family s) (get_or order i 0))
-  pub room : 8191 ≤ length levels
 
 -- what is tried after 9 and 10
 unfoldable pub room_and_places : List ℕ → ℕ → List Cause

@@ -17,10 +17,10 @@ numbers_from s at n = tabulate n (λ j. number_at s (at + 2 * j))
 unfoldable pub region_from : List ℕ → ℕ → ℕ → Region
 region_from s at k = record { first = number_at s (at + 6 * k); last = number_at s (at + 6 * k + 2); z = number_at s (at + 6 * k + 4) }
 
--- the list has, at the number of each level, how many regions there are of the levels before it; at 0 it is as it was
-pub record LevelsBegin (counts old starts : List ℕ) : Type 0 where
+-- the list has, at the number of each level, how many regions there are of the levels before it; at 0 it has 0
+pub record LevelsBegin (counts starts : List ℕ) : Type 0 where
   pub long : length starts ≡ 65
-  pub first : get_or starts 0 0 ≡ get_or old 0 0
+  pub first : get_or starts 0 0 ≡ 0
   pub sums : (h : ℕ) → h < 64 → get_or starts (suc h) 0 ≡ sum (take h counts)
 
 -- the regions with these levels, by rising level, those of one level as they stand

@@ -1,13 +1,10 @@
--- The bound's answer, field by field; the taken bytes are the bound's.
-use mathlib.Core.Path.{refl, ap, ◌∙◌}
+-- The bound's answer, field by field.
+use mathlib.Core.Path.{ap, ◌∙◌}
+use Rattle.bounds.specs.Calls.{the_number}
 use Rattle.phf.specs.Fields.{bounded_fields}
-use Rattle.phf.proofs.FieldLaws.{bound_found, bound_refused}
+use Rattle.phf.proofs.FieldLaws.{placeless_told}
 use Rattle.phf.proofs.phf_bound.Goals as goal
 
-pub returns-in-Bound : goal.returns-in-Bound
-returns-in-Bound c =
-    record { phf_bound_answers = bound_found _ _ refl ∙ ap bounded_fields c.in-Bound.ensures.bound_answers; taken_writes = c.bound.ensures.taken_writes }
-
-pub returns-in-Refused : goal.returns-in-Refused
-returns-in-Refused c =
-    record { phf_bound_answers = bound_refused _ _ refl ∙ ap bounded_fields c.in-Refused.ensures.bound_answers; taken_writes = c.bound.ensures.taken_writes }
+pub returns-clause-phf_bound_answers : goal.returns-clause-phf_bound_answers
+returns-clause-phf_bound_answers c =
+    c.into.ensures ∙ ap bounded_fields (placeless_told the_number _ _ _ c.bound.ensures.bound_answers)

@@ -3,6 +3,6 @@ use mathlib.Core.Path.{ap, ◌∙◌}
 use Rattle.phf.specs.Fields.{curved_fields}
 use Rattle.phf.proofs.phf_curve.Goals as goal
 
-pub returns : goal.returns
-returns c =
-    let told = c.curve.ensures in record { phf_curve_answers = c.curved.ensures ∙ ap curved_fields told.curve_answers; curve_values_writes = told.curve_values_writes; curve_marks_writes = told.curve_marks_writes }
+pub returns-clause-phf_curve_answers : goal.returns-clause-phf_curve_answers
+returns-clause-phf_curve_answers c =
+    c.into.ensures ∙ ap curved_fields c.curve.ensures.curve_answers

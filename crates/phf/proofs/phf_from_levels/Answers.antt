@@ -1,8 +1,10 @@
 -- The fields of the answer of `from_levels`; the output is the library's.
 use mathlib.Core.Path.{ap, ◌∙◌}
+use Rattle.bounds.specs.Calls.{the_number}
 use Rattle.phf.specs.Fields.{converted_fields}
+use Rattle.phf.proofs.FieldLaws.{placeless_told}
 use Rattle.phf.proofs.phf_from_levels.Goals as goal
 
-pub returns : goal.returns
-returns c =
-    let told = c.from_levels.ensures in record { phf_from_levels_answers = c.converted.ensures ∙ ap converted_fields told.from_levels_answers; from_levels_writes = told.from_levels_writes }
+pub returns-clause-phf_from_levels_answers : goal.returns-clause-phf_from_levels_answers
+returns-clause-phf_from_levels_answers c =
+    c.into.ensures ∙ ap converted_fields (placeless_told the_number _ _ _ c.from_levels.ensures.from_levels_answers)

@@ -6,8 +6,8 @@ use mathlib.Core.Logic.{⊎_elim}
 use mathlib.Core.Path.{◌≡◌, sym, ◌∙◌}
 use native.Mathlib.Numerals.{add-one}
 use native.Mathlib.Omega.{arith}
-use lib.ListN.{length, get_or, take, drop, drop_of_length-le}
-use lib.Seq.{drop-cons, length-take-le, get_or-take}
+use lib.ListN.{length, get_or, drop, drop_of_length-le}
+use lib.Seq.{drop-cons}
 use Rattle.reader.specs.Family.{Family, region_count, leaf_of}
 use Rattle.reader.specs.WellFormed.{WellFormed, Nested}
 use Rattle.bounds.specs.Holding.{holds_leaf}
@@ -18,7 +18,8 @@ use Rattle.bounds.proofs.Walking.Steps.{has_leaf}
 use Rattle.pvalues.specs.FromP.{gap, passes}
 use Rattle.pvalues.specs.Private.Ordering.{p_value, InOrder}
 use Rattle.pvalues.specs.Private.Lowering.{lower_at, lower_along, has_at, z_at, PValues}
-use Rattle.pvalues.specs.Private.Climbing.{Lowered, LastOfFirst, Filled, Climbable, BoundsFound}
+use Rattle.pvalues.specs.Private.Climbing.{left_of_each, z_of_each, LoweredLists, LastOfFirst, Filled, Climbable, BoundsFound}
+use Rattle.pvalues.specs.declared.lowering.Lowering.{Lowering}
 use Rattle.pvalues.proofs.Theory.LoweredIsZ.{region_z, size_most}
 
 -- the z of a region with a p-value less left, from what was left and from its z before
@@ -26,9 +27,9 @@ abbrev pub lowered_at : ℕ → ℕ → List ℕ → List ℕ → ℕ → ℕ
 lowered_at deviationSquared p L Z k = lower_at deviationSquared p (get_or L k 0) (get_or Z k 0)
 
 pub lowered_ends : (F : Family) (leaf p deviationSquared : ℕ) (L Z L' Z' : List ℕ) (c : ℕ) → c ≡ 0
-    → ChangedFrom F (one_less L) L leaf L' c → ChangedFrom F (lowered_at deviationSquared p L Z) Z leaf Z' c → Lowered F leaf p deviationSquared L Z L' Z'
-lowered_ends F leaf p deviationSquared L Z L' Z' c e left bounds =
-    record { left = λ k l. left.changed k (omega arith) l; bounds = λ k l. bounds.changed k (omega arith) l }
+    → ChangedFrom F (one_less L) L leaf L' c → ChangedFrom F (lowered_at deviationSquared p L Z) Z leaf Z' c → LoweredLists F leaf p deviationSquared L Z L' Z'
+lowered_ends F leaf p deviationSquared L Z L' Z' c e left z =
+    record { left = λ k l. left.changed k (omega arith) l; z = λ k l. z.changed k (omega arith) l }
 
 -- The next peptide of a list is one of the region's, or is not; and at the end of the list nothing is left to do.
 module _ (deviationSquared : ℕ) (ps : List ℕ) (X : ℕ → Bool) (z left : ℕ) where
@@ -53,21 +54,14 @@ pub record Coming (F : Family) (ps : List ℕ) (deviationSquared : ℕ) (order L
 
 module _ {F : Family} (w : WellFormed F) {ps : List ℕ} {deviationSquared : ℕ} (known : PValues F ps deviationSquared) where
   -- where the peptides of the order stand
-  module _ (order : List ℕ) (ordered : InOrder ps (take (length ps) order)) (room : length ps ≤ length order) (i : ℕ) (h : i < length ps) where
-    all_taken : length (take (length ps) order) ≡ length ps
-    all_taken = length-take-le (length ps) order room
-
-    order_at : get_or (take (length ps) order) i 0 ≡ get_or order i 0
-    order_at = get_or-take (length ps) order i 0 h
-
+  module _ (order : List ℕ) (ordered : InOrder ps order) (i : ℕ) (h : i < length order) where
     pub place_within : get_or order i 0 < F.peptides
-    place_within = rw (order_at, known.values) at (ordered.within (get_or (take (length ps) order) i 0) (in_at 0 (take (length ps) order) i (omega (arith, all_taken))))
+    place_within = rw known.values at (ordered.within (get_or order i 0) (in_at 0 order i h))
 
     -- the peptide there is visited
     pub coming_more :
-        (L Z L' Z' : List ℕ) → Coming F ps deviationSquared (take (length ps) order) L Z i
-        → Lowered F (leaf_of F (suc (get_or order i 0))) (p_value ps (get_or order i 0)) deviationSquared L Z L' Z'
-        → Coming F ps deviationSquared (take (length ps) order) L' Z' (i + 1)
+        (L Z L' Z' : List ℕ) → Coming F ps deviationSquared order L Z i → LoweredLists F (leaf_of F (suc (get_or order i 0))) (p_value ps (get_or order i 0)) deviationSquared L Z L' Z'
+        → Coming F ps deviationSquared order L' Z' (i + 1)
     coming_more L Z L' Z' before step = record { rest = rest; small = small }
       where
         x : ℕ
@@ -79,48 +73,46 @@ module _ {F : Family} (w : WellFormed F) {ps : List ℕ} {deviationSquared : ℕ
         has_it : (k : ℕ) → k < region_count F → has_at F k x ≡ holds_leaf F leaf k
         has_it k l = has_leaf w (suc x) k (omega arith) place_within l
 
-        next : drop i (take (length ps) order) ≡ x ∷ drop (i + 1) (take (length ps) order)
-        next = drop-cons (take (length ps) order) i 0 (omega (arith, all_taken)) ∙ rw (order_at, add-one i)
+        next : drop i order ≡ x ∷ drop (i + 1) order
+        next = drop-cons order i 0 h ∙ rw (add-one i)
 
-        rest : (k : ℕ) → k < region_count F → lower_along deviationSquared ps (has_at F k) (get_or Z' k 0) (get_or L' k 0) (drop (i + 1) (take (length ps) order)) ≡ z_at F ps deviationSquared k
+        rest : (k : ℕ) → k < region_count F → lower_along deviationSquared ps (has_at F k) (get_or Z' k 0) (get_or L' k 0) (drop (i + 1) order) ≡ z_at F ps deviationSquared k
         rest k l =
             ⊎_elim
             (λ (t : holds_leaf F leaf k ≡ true).
-            rw (step.left k l, step.bounds k l, t)
-            (sym (next_taken deviationSquared ps (has_at F k) (get_or Z k 0) (get_or L k 0) x (drop i (take (length ps) order)) _ next (has_it k l ∙ t)) ∙ before.rest k l))
+            rw (step.left k l, step.z k l, t)
+            (sym (next_taken deviationSquared ps (has_at F k) (get_or Z k 0) (get_or L k 0) x (drop i order) _ next (has_it k l ∙ t)) ∙ before.rest k l))
             (λ (e : holds_leaf F leaf k ≡ false).
-            rw (step.left k l, step.bounds k l, e)
-            (sym (next_passed deviationSquared ps (has_at F k) (get_or Z k 0) (get_or L k 0) x (drop i (take (length ps) order)) _ next (has_it k l ∙ e)) ∙ before.rest k l))
+            rw (step.left k l, step.z k l, e)
+            (sym (next_passed deviationSquared ps (has_at F k) (get_or Z k 0) (get_or L k 0) x (drop i order) _ next (has_it k l ∙ e)) ∙ before.rest k l))
             (test (holds_leaf F leaf k))
 
         small : (k : ℕ) → k < region_count F → get_or Z' k 0 ≤ 4096
         small k l =
             ⊎_elim
-            (λ (t : holds_leaf F leaf k ≡ true). rw (step.bounds k l, t) (omega (arith, before.small k l, largest_most (get_or Z k 0) (passes deviationSquared (gap (p_value ps x)) (get_or L k 0 - 1)))))
-            (λ (e : holds_leaf F leaf k ≡ false). rw (step.bounds k l, e) (before.small k l))
+            (λ (t : holds_leaf F leaf k ≡ true). rw (step.z k l, t) (omega (arith, before.small k l, largest_most (get_or Z k 0) (passes deviationSquared (gap (p_value ps x)) (get_or L k 0 - 1)))))
+            (λ (e : holds_leaf F leaf k ≡ false). rw (step.z k l, e) (before.small k l))
             (test (holds_leaf F leaf k))
 
     -- the innermost region of the peptide there is where its climb begins
-    pub climbable : (P T L Z : List ℕ) → Nested F P → LastOfFirst F (region_count F) T → region_count F ≤ length L → region_count F ≤ length Z
-        → Coming F ps deviationSquared (take (length ps) order) L Z i → Climbable P L Z (get_or T (get_or order i 0) 0)
-    climbable P T L Z nested last left bounds coming =
+    pub climbable : (P T : List ℕ) (R : List Lowering) → Nested F P → LastOfFirst F (region_count F) T → Coming F ps deviationSquared order (left_of_each R) (z_of_each R) i
+        → Climbable P R (get_or T (get_or order i 0) 0)
+    climbable P T R nested last coming =
         record {
           family = F;
           nested = nested;
-          left = left;
-          bounds = bounds;
           leaf = leaf_of F (suc (get_or order i 0));
           last = last (get_or order i 0) place_within;
           small = coming.small;
         }
 
-  pub coming_starts : (order T L Z : List ℕ) → InOrder ps order → Filled F T L Z → Coming F ps deviationSquared order L Z 0
-  coming_starts order T L Z ordered filled =
+  pub coming_starts : (order T : List ℕ) (R : List Lowering) → InOrder ps order → Filled F T R → Coming F ps deviationSquared order (left_of_each R) (z_of_each R) 0
+  coming_starts order T R ordered filled =
       record {
-        rest = λ k l. rw (filled.left k l, filled.bounds k l) (region_z w known ordered k l);
-        small = λ k l. omega (arith, filled.bounds k l, size_most w ps known.values k l, w.peptides_most);
+        rest = λ k l. rw (filled.left k l, filled.z k l) (region_z w known ordered k l);
+        small = λ k l. omega (arith, filled.z k l, size_most w ps known.values k l, w.peptides_most);
       }
 
-  pub coming_ends : (order L Z : List ℕ) (i : ℕ) → length order ≤ i → Coming F ps deviationSquared order L Z i → BoundsFound F ps deviationSquared Z
-  coming_ends order L Z i h coming k l =
-      sym (none_next deviationSquared ps (has_at F k) (get_or Z k 0) (get_or L k 0) (drop i order) (drop_of_length-le order {i = i} h)) ∙ coming.rest k l
+  pub coming_ends : (order L : List ℕ) (R : List Lowering) (i : ℕ) → length order ≤ i → Coming F ps deviationSquared order L (z_of_each R) i → BoundsFound F ps deviationSquared R
+  coming_ends order L R i h coming k l =
+      sym (none_next deviationSquared ps (has_at F k) (get_or (z_of_each R) k 0) (get_or L k 0) (drop i order) (drop_of_length-le order {i = i} h)) ∙ coming.rest k l

@@ -1,9 +1,5 @@
 -- The first cause of the listing, else that of the arrangement.
-use mathlib.Core.Path.{◌≡◌, sym, ◌∙◌}
-use Rattle.reader.specs.Family.{family_of}
-use Rattle.reader.specs.Causes.{first_cause, header_causes, listing_causes}
-use Rattle.reader.specs.Private.Climb.{Judged}
-use Rattle.reader.specs.Refusals.{verdict}
+use mathlib.Core.Path.{sym, ◌∙◌}
 use Rattle.reader.proofs.Refusals.{number_some, some_holds, handed_on}
 use Rattle.reader.proofs.Accepting.{listed_header, header_whole, file_listing, file_arrangement}
 use Rattle.reader.proofs.judge.Goals as goal

@@ -6,7 +6,6 @@ use mathlib.Core.List.{List, ◌++◌}
 use mathlib.Core.Path.{◌≡◌, refl, sym, ap, ◌∙◌}
 use lib.ListN.{length, take, drop}
 use lib.Seq.{length-take-le}
-use borrow.Author.Rules.{rules}
 use Rattle.reader.specs.Family.{family_of, region_count}
 use Rattle.reader.specs.Causes.{Accepted}
 use Rattle.reader.proofs.Refusals.{number_some, handed_on}

@@ -13,17 +13,17 @@ use Rattle.reduction.proofs.same.Goals.{In_ok-map_err, In_ok-map_err-2}
 first_accepted : (c : In_ok-map_err) → Accepted c.args.first.now
 first_accepted c =
     file_accepted c.args.first.now _ (omega arith) _
-    (subst (ParentsAnswers c.args.first.now _) (mapped_ok First _ c.map_err.result _ c.map_err.ensures.cases c.in_ok-map_err.was) c.parents.ensures.parents_answers)
+    (subst (ParentsAnswers c.args.first.now _) (mapped_ok _ _ c.map_err.result _ c.map_err.ensures.cases c.in_ok-map_err.was) c.parents.ensures.parents_answers)
 
 second_accepted : (c : In_ok-map_err-2) → Accepted c.args.second.now
 second_accepted c =
     file_accepted c.args.second.now _ (omega arith) _
-    (subst (ParentsAnswers c.args.second.now _) (mapped_ok Second _ c.map_err-2.result _ c.map_err-2.ensures.cases c.in_ok-map_err-2.was) c.parents-2.ensures.parents_answers)
+    (subst (ParentsAnswers c.args.second.now _) (mapped_ok _ _ c.map_err-2.result _ c.map_err-2.ensures.cases c.in_ok-map_err-2.was) c.parents-2.ensures.parents_answers)
 
 pub returns-in_err-map_err : goal.returns-in_err-map_err
 returns-in_err-map_err c =
     let p = err_from_is_err_and c.from_residual.result c.from_residual.ensures.1 in
-    let e = mapped_err First c.parents.result c.map_err.result c.in_err-map_err.field-0.0 c.map_err.ensures.cases c.in_err-map_err.was in
+    let e = mapped_err _ c.parents.result c.map_err.result c.in_err-map_err.field-0.0 c.map_err.ensures.cases c.in_err-map_err.was in
     rw (p.1, p.2, e.made)
     (first_refused c.args.first.now c.args.second.now e.refusal
     (file_refused c.args.first.now _ (omega arith) e.refusal (subst (ParentsAnswers c.args.first.now _) e.was c.parents.ensures.parents_answers)))
@@ -32,7 +32,7 @@ pub returns-in_err-map_err-2 : goal.returns-in_err-map_err-2
 returns-in_err-map_err-2 c =
     let exit = c.from_residual-in_err-map_err-2 in
     let p = err_from_is_err_and exit.result exit.ensures.1 in
-    let e = mapped_err Second c.parents-2.result c.map_err-2.result c.in_err-map_err-2.field-0.0 c.map_err-2.ensures.cases c.in_err-map_err-2.was in
+    let e = mapped_err _ c.parents-2.result c.map_err-2.result c.in_err-map_err-2.field-0.0 c.map_err-2.ensures.cases c.in_err-map_err-2.was in
     rw (p.1, p.2, e.made)
     (second_refused c.args.first.now c.args.second.now (first_accepted (goal.at.returns-in_err-map_err-2 c).In_ok-map_err) e.refusal
     (file_refused c.args.second.now _ (omega arith) e.refusal (subst (ParentsAnswers c.args.second.now _) e.was c.parents-2.ensures.parents_answers)))

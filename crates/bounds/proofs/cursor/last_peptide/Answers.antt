@@ -19,5 +19,5 @@ loop-j-preserved c =
 
 pub returns : goal.returns
 returns c =
-    let e : c.loop-j.j ≡ c.args.last.0 = omega arith in
-    rw (← e) c.loop-j.invariant.2
+    let e : c.loop-j.j ≡ c.args.last.0 = omega (arith, c.requires.forward) in
+    rw (← e) c.loop-j.invariant

@@ -6,7 +6,7 @@ use Rattle.bounds.proofs.rows.line_value.Goals as goal
 pub row_value-row-requires : goal.row_value-row-requires
 row_value-row-requires c =
     let pre = c.requires in
-    line_row _ _ _ pre.ready pre.file_in_bounds refl refl refl c.leaf_count-leaves.ensures
+    line_row _ _ _ pre.file_in_bounds refl refl refl c.leaf_count.ensures
 
 pub shape_of-totals : goal.shape_of-totals
 shape_of-totals c =

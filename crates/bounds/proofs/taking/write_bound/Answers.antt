@@ -19,7 +19,7 @@ slice_bounds-write_taken-end c = sym c.line_value-value.auto.totals
 pub write_taken-requires : goal.write_taken-requires
 write_taken-requires c =
     let w = c.requires.ready.formed in
-    (omega (arith, w.regions_most, w.leaves_most, c.line_value-value.auto.totals), c.requires.room)
+    record { totals_room = omega (arith, w.regions_most, w.leaves_most, c.line_value-value.auto.totals); taken_room = c.requires.room }
 
 pub returns : goal.returns
 returns c =

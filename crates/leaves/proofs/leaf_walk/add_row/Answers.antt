@@ -1,13 +1,16 @@
--- Each lane is capped, so their sum is.
-use Rattle.std.proofs.Common.{refl, arith}
-use Rattle.leaves.specs.Private.Walking.{lane_sum}
-use Rattle.leaves.proofs.Walk.{added_eight, capped_as, capped_both}
+use Rattle.std.proofs.Common.{ℕ, sum, set, sym, refl, ap, arith}
+use Rattle.leaves.proofs.Walk.{added_none, added_next, capped_same, capped_as, capped_more, capped_lane}
 use Rattle.leaves.proofs.leaf_walk.add_row.Goals as goal
 
-pub returns : goal.returns
-unfolding lane_sum
-returns c =
+pub loop-i-init : goal.loop-i-init
+loop-i-init c =
+    capped_as (omega (arith, added_none c.args.file.now c.args.at)) refl (capped_same (sum c.args.lanes.now))
+
+pub loop-i-preserved : goal.loop-i-preserved
+loop-i-preserved c =
+    let i = c.loop-i.i in
+    let lanes = c.loop-i.lanes in
     capped_as
-    (omega (arith, added_eight c.args.file.now c.args.at, c.length_at-8.ensures, c.length_at-7.ensures, c.length_at-6.ensures, c.length_at-5.ensures, c.length_at-4.ensures, c.length_at-3.ensures, c.length_at-2.ensures, c.length_at.ensures))
-    refl
-    (capped_both (capped_both (capped_both (capped_both (capped_both (capped_both (capped_both c.capped_sum.ensures c.capped_sum-2.ensures) c.capped_sum-3.ensures) c.capped_sum-4.ensures) c.capped_sum-5.ensures) c.capped_sum-6.ensures) c.capped_sum-7.ensures) c.capped_sum-8.ensures)
+    (omega (arith, c.length_at.ensures, added_next c.args.file.now c.args.at i))
+    (ap (λ (n : ℕ). sum (set lanes i n)) (sym c.saturating_add.ensures))
+    (capped_more c.length_at.result c.loop-i.invariant (capped_lane lanes i c.length_at.result (omega arith)))

@@ -1,9 +1,6 @@
--- The lanes are added in pairs.
-use Rattle.leaves.specs.Private.Walking.{lane_sum}
 use Rattle.std.proofs.Common.{rules}
+use Rattle.std.proofs.iter.runs.Sources.{sums}
 use Rattle.leaves.proofs.leaf_walk.lane_total.Goals as goal
 
-pub returns : goal.returns
-unfolding lane_sum
-returns c =
-    search rules
+pub sum-requires-clause-fits : goal.sum-requires-clause-fits
+sum-requires-clause-fits c = search (rules, sums)

@@ -1,5 +1,5 @@
 -- The loop has found the regions of the first h levels in their places.
-use Prim.Native.Nat.{ℕ, ◌≤◌, ◌-◌}
+use Prim.Native.Nat.{ℕ}
 use mathlib.Core.Bool.{Bool, false}
 use mathlib.Core.List.{List}
 use mathlib.Core.Path.{◌≡◌}
@@ -14,7 +14,4 @@ abbrev pub wrong_in : List ℕ → ℕ → Bool
 wrong_in s h = some_below (get_or (counts_in s) h 0) (λ i. misleveled (counts_in s) (listed_family s) h i)
 
 abbrev pub invariant-loop-h : goal.invariant-loop-h
-invariant-loop-h l = (l.h ≤ 64) × (l.start ≡ sum (take l.h (counts_in l.file))) × (some_below l.h (wrong_in l.file) ≡ false)
-
-abbrev pub decreases-loop-h : goal.decreases-loop-h
-decreases-loop-h l = 64 - l.h
+invariant-loop-h l = (l.start ≡ sum (take l.h (counts_in l.list.file.now))) × (some_below l.h (wrong_in l.list.file.now) ≡ false)

@@ -6,19 +6,19 @@ use Rattle.reader.specs.Family.{Family}
 use Rattle.reader.specs.WellFormed.{Nested}
 use Rattle.bounds.specs.Holding.{LastHolding}
 use Rattle.bounds.proofs.Walking.Holding.{Chain, ChangedFrom, one_less}
+use Rattle.pvalues.specs.Private.Climbing.{left_of_each, z_of_each}
 use Rattle.pvalues.proofs.Finding.Climbs.{lowered_at}
 use Rattle.pvalues.proofs.climbing.lower_regions.Given as goal
 
 abbrev pub invariant-loop-number : goal.invariant-loop-number
 invariant-loop-number l = (l.number ≤ l.inner)
-    × (length l.left ≡ length l.initial.left)
-    × (length l.bounds ≡ length l.initial.bounds)
-    × ((i : ℕ) → i < l.number → get_or l.left i 0 ≡ get_or l.initial.left i 0)
-    × ((i : ℕ) → i < l.number → get_or l.bounds i 0 ≡ get_or l.initial.bounds i 0)
+    × (length l.regions ≡ 8191)
+    × ((i : ℕ) → i < l.number → get_or (left_of_each l.regions) i 0 ≡ get_or (left_of_each l.initial.regions) i 0)
+    × ((i : ℕ) → i < l.number → get_or (z_of_each l.regions) i 0 ≡ get_or (z_of_each l.initial.regions) i 0)
     × ((F : Family) (leaf : ℕ) → Nested F l.parents → LastHolding F leaf l.inner
     → Chain F leaf l.number
-    × ChangedFrom F (one_less l.initial.left) l.initial.left leaf l.left l.number
-    × ChangedFrom F (lowered_at l.deviation_squared l.p l.initial.left l.initial.bounds) l.initial.bounds leaf l.bounds l.number)
+    × ChangedFrom F (one_less (left_of_each l.initial.regions)) (left_of_each l.initial.regions) leaf (left_of_each l.regions) l.number
+    × ChangedFrom F (lowered_at l.deviation_squared l.p (left_of_each l.initial.regions) (z_of_each l.initial.regions)) (z_of_each l.initial.regions) leaf (z_of_each l.regions) l.number)
 
 abbrev pub decreases-loop-number : goal.decreases-loop-number
 decreases-loop-number l = l.number

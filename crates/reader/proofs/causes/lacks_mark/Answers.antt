@@ -1,9 +1,8 @@
 -- Under 16 bytes, or the first four bytes are not the mark.
-use native.Mathlib.Omega.{arith}
 use mathlib.Core.Bool.{not}
 use mathlib.Core.Path.{sym, ap, ◌∙◌}
 use lib.ListN.{length, take}
-use borrow.Author.Tests.{lt-ltb, le-ltb}
+use borrow.Author.Tests.{lt-ltb}
 use Rattle.reader.specs.Causes.{cause1}
 use Rattle.reader.proofs.Lists.{pointwise_swap}
 use Rattle.reader.proofs.Judged.{marked_so}

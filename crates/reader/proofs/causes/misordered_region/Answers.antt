@@ -1,9 +1,9 @@
 use Prim.Native.Nat.{ℕ, ◌-◌, ◌+◌, ◌≤◌}
 use native.Mathlib.Omega.{arith}
-use mathlib.Core.Bool.{Bool, true, false, not}
+use mathlib.Core.Bool.{Bool, false, not}
 use mathlib.Core.Path.{◌≡◌, sym, ap, ap₂, ◌∙◌}
 use Rattle.reader.specs.Lists.{some_below}
-use Rattle.reader.specs.Family.{Region, Family, family_of, region_count, region}
+use Rattle.reader.specs.Family.{Family, family_of, region_count, region}
 use Rattle.reader.specs.Nesting.{before}
 use Rattle.reader.specs.Causes.{cause8}
 use Rattle.reader.proofs.Below.{none_below_zero, none_more, none_at, none_below, some_at}

@@ -1,7 +1,6 @@
 use native.Mathlib.Omega.{arith}
-use mathlib.Core.Bool.{false}
 use mathlib.Core.Path.{◌≡◌, sym, ◌∙◌}
-use Rattle.reader.specs.Family.{Region, family_of, leaves, region_count, region}
+use Rattle.reader.specs.Family.{family_of, leaves, region_count, region}
 use Rattle.reader.specs.Causes.{cause7, misplaced}
 use Rattle.reader.proofs.Below.{none_below_zero, none_more, some_at}
 use Rattle.reader.proofs.causes.misplaced_region.Goals as goal

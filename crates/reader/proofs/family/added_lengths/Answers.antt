@@ -1,6 +1,6 @@
 use Prim.Native.Nat.{ℕ, ◌+◌}
 use native.Mathlib.Omega.{arith}
-use mathlib.Core.Path.{◌≡◌, sym, ap, ◌∙◌}
+use mathlib.Core.Path.{sym, ap, ◌∙◌}
 use Rattle.reader.specs.Family.{family_of}
 use Rattle.reader.proofs.Parsed.{leaves_read, length_number}
 use Rattle.reader.proofs.Walk.{between_more}

@@ -1,5 +1,4 @@
 -- There is no region of the number 0; any other is the one before it in counting from 0.
-use native.Mathlib.Omega.{arith}
 use mathlib.Core.Path.{ap}
 use Prim.Native.Nat.{ℕ, ◌-◌}
 use lib.Dec.{ltb}

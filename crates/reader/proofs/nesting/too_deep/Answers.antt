@@ -1,11 +1,9 @@
 use Prim.Native.Nat.{◌<◌}
 use native.Mathlib.Omega.{arith}
 use mathlib.Core.Path.{◌≡◌, sym, ◌∙◌}
-use lib.ListN.{length-set}
 use Rattle.reader.specs.Family.{family_of, region_count}
 use Rattle.reader.specs.Nesting.{regions_around}
 use Rattle.reader.proofs.Climbing.{counts_one_deeper, counted_more, too_deep, not_too_deep}
-use borrow.Author.Rules.{rules}
 use Rattle.reader.proofs.nesting.too_deep.Goals as goal
 use Rattle.reader.proofs.nesting.too_deep.Goals.{After-one_deeper-depth, In-loop-k}
 

@@ -1,25 +1,22 @@
-use native.Mathlib.Omega.{arith}
-use mathlib.Core.Path.{◌≡◌, sym, ◌∙◌}
-use lib.ListN.{length}
-use Rattle.volcano.proofs.Judging.{rows_none, rows_more, rows_all}
+-- The p-values are judged first, then the folds.
+use Rattle.std.proofs.Common.{sym, ◌∙◌, rules}
+use Rattle.std.proofs.lemmas.Iterator.{YieldsList-from_slice}
+use Rattle.std.proofs.lemmas.Iterator.Search.{any_from_yields_List}
+use Rattle.volcano.specs.Rules.{off_scale, not_finite}
+use Rattle.volcano.proofs.Floats.{finite_is}
+use Rattle.volcano.proofs.Judging.{rows_judged}
 use Rattle.volcano.proofs.inputs.bad_rows.Goals as goal
 
-pub loop-i-init : goal.loop-i-init
-loop-i-init c =
-    (omega arith, sym (rows_none _ _))
+pub returns-then-any : goal.returns-then-any
+returns-then-any c =
+    let p_values =
+    any_from_yields_List off_scale _ _ _ c.any.ensures.ran (YieldsList-from_slice c.args.p_values.now cc) (λ x b q k. search rules) in
+    c.if-any.true ∙ rw (sym p_values ∙ c.if-any.true) at (rows_judged c.args.p_values.now c.args.folds.now)
 
-pub bounds-folds-i : goal.bounds-folds-i
-bounds-folds-i c =
-    omega (arith, c.requires)
-
-pub loop-i-preserved : goal.loop-i-preserved
-loop-i-preserved c =
-    (omega arith, rows_more _ _ _ _ _ c.loop-i.invariant.1 c.bad_row-bad.ensures)
-
-pub returns : goal.returns
-returns c =
-    let ps = c.args.p_values.now in
-    let folds = c.args.folds.now in
-    let i = c.loop-i.i in
-    let end : i ≡ length ps = omega arith in
-    c.loop-i.invariant.1 ∙ rows_all ps folds i end (end ∙ c.requires)
+pub returns-else-any : goal.returns-else-any
+returns-else-any c =
+    let p_values =
+    any_from_yields_List off_scale _ _ _ c.any.ensures.ran (YieldsList-from_slice c.args.p_values.now cc) (λ x b q k. search rules) in
+    let folds =
+    any_from_yields_List not_finite _ _ _ c.any-else-any.ensures.ran (YieldsList-from_slice c.args.folds.now cc) (λ x b q k. search (rules, finite_is)) in
+    folds ∙ rw (sym p_values ∙ c.if-any.false) at (rows_judged c.args.p_values.now c.args.folds.now)

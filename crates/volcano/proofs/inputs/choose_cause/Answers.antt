@@ -4,7 +4,7 @@ use mathlib.Core.Path.{◌≡◌, sym, ◌∙◌}
 use Rattle.reader.specs.Causes.{cause2, first_cause}
 use Rattle.volcano.specs.Rules.{cause19}
 use Rattle.volcano.specs.Calls.{choose_causes}
-use Rattle.volcano.proofs.Judging.{lengths_match, number_2, number_17, number_18, number_19}
+use Rattle.volcano.proofs.Judging.{number_2, number_17, number_18, number_19}
 use Rattle.volcano.proofs.inputs.choose_cause.Goals as goal
 use Rattle.volcano.proofs.inputs.choose_cause.Goals.{Else-bad_count, Else-bad_rows}
 
@@ -23,10 +23,6 @@ returns-then-bad_count c =
 pub returns-then-wrong_lengths : goal.returns-then-wrong_lengths
 returns-then-wrong_lengths c =
     sym (number_17 _ _ _ _ _ (no2 (goal.at.returns-then-wrong_lengths c).Else-bad_count) (sym c.wrong_lengths.ensures ∙ c.if-wrong_lengths.true))
-
-pub bad_rows-requires : goal.bad_rows-requires
-bad_rows-requires c =
-    let l = lengths_match _ _ _ _ (sym c.wrong_lengths.ensures ∙ c.if-wrong_lengths.false) in l.0 ∙ sym l.1
 
 pub returns-then-bad_rows : goal.returns-then-bad_rows
 returns-then-bad_rows c =
