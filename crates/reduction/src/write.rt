@@ -14,7 +14,7 @@ use reader::bytes::{put_number, put_numbers};
 use reader::family::peptide_count;
 
 // The reduced ranges in file order: the first peptide, the last one and the bound of each. Three arrays and not one of ranges, as
-// their places serve other numbers too.
+// their places serve other numbers too. (The Ranges of keep borrow them to write.)
 #[derive(Clone, Copy)]
 struct Ranges<'a> {
     from: &'a [u16],
