@@ -62,7 +62,7 @@ impl From<Result<u16, Refusal>> for PhfBounded {
         match answer {
             Ok(bound) => PhfBounded { number: 0, bound },
             Err(refusal) => {
-                let number = refusal.into();
+                let number = u16::from(refusal);
                 PhfBounded { number, bound: 0 }
             }
         }
@@ -151,7 +151,7 @@ impl From<Result<bool, PairRefusal>> for PhfCompared {
                 same: same as u16,
             },
             Err(refusal) => {
-                let number = refusal.into();
+                let number = u16::from(refusal);
                 PhfCompared { number, same: 0 }
             }
         }
@@ -165,7 +165,7 @@ impl From<Result<u16, Refusal>> for PhfConverted {
         match answer {
             Ok(length) => PhfConverted { number: 0, length },
             Err(refusal) => {
-                let number = refusal.into();
+                let number = u16::from(refusal);
                 PhfConverted { number, length: 0 }
             }
         }
