@@ -4,9 +4,9 @@ ghost use Rattle.std.specs.Prelude.{◌≡◌, cond, ◌++◌, ◌+◌, ◌*◌,
 ghost use Rattle.reader.specs.Family.{family_of};
 ghost use Rattle.reader.specs.Lists.{tabulate};
 ghost use Rattle.bounds.specs.Curves.{curve_values, curve_marks, largest_up_to, cut_of};
-ghost use Rattle.bounds.specs.Private.Walks.{Walkable, marks_up_to, MarksOf};
+ghost use Rattle.bounds.specs.Private.Walks.{marks_up_to, MarksOf};
 
-use crate::walk::mark_path;
+use crate::walk::Walk;
 
 // Entry t from the entry before it and mark t.
 fn next_entry(entry: u16, mark: u8) -> u16
@@ -28,24 +28,6 @@ fn write_values(marks: &[u8], values: &mut [u16])
         entry = next_entry(entry, *mark);
         values[t + 1] = entry;
     }
-}
-
-// Writes the curve and its marks.
-pub(crate) fn write_curve(
-    file: &[u8],
-    parents: &[u16],
-    path: &[u16],
-    values: &mut [u16],
-    marks: &mut [u8],
-)
-    requires walkable { Walkable (family_of file.now) path.now parents.now }
-    requires values_room { length path.now + 1 ≤ length values.old }
-    requires marks_room { length path.now ≤ length marks.old }
-    ensures values_after { values.new ≡ curve_values (family_of file.now) path.now ++ drop (length path.now + 1) values.old }
-    ensures marks_after { marks.new ≡ curve_marks (family_of file.now) path.now ++ drop (length path.now) marks.old }
-{
-    mark_path(file, parents, path, marks);
-    write_values(&marks[..path.len()], values);
 }
 
 // The later of two cuts: t if entry t times b is at most a times t, else the one found before.
@@ -73,12 +55,24 @@ fn last_passing(marks: &[u8], a: u16, b: u16) -> u16
     cut
 }
 
-// The cut along a path.
-pub(crate) fn find_cut(file: &[u8], parents: &[u16], path: &[u16], a: u16, b: u16) -> u16
-    requires { Walkable (family_of file.now) path.now parents.now }
-    ensures { result ≡ cut_of (family_of file.now) path.now a b }
-{
-    let mut marks = [0u8; 4096];
-    mark_path(file, parents, path, &mut marks);
-    last_passing(&marks[..path.len()], a, b)
+impl Walk<'_> {
+    // Writes the curve along the path and its marks.
+    pub(crate) fn write_curve(&self, values: &mut [u16], marks: &mut [u8])
+        requires values_room { length self.now.path.now + 1 ≤ length values.old }
+        requires marks_room { length self.now.path.now ≤ length marks.old }
+        ensures values_after { values.new ≡ curve_values (family_of self.now.file.now) self.now.path.now ++ drop (length self.now.path.now + 1) values.old }
+        ensures marks_after { marks.new ≡ curve_marks (family_of self.now.file.now) self.now.path.now ++ drop (length self.now.path.now) marks.old }
+    {
+        self.write_marks(marks);
+        write_values(&marks[..self.path.len()], values);
+    }
+
+    // The cut along the path.
+    pub(crate) fn find_cut(&self, a: u16, b: u16) -> u16
+        ensures { result ≡ cut_of (family_of self.now.file.now) self.now.path.now a b }
+    {
+        let mut marks = [0u8; 4096];
+        self.write_marks(&mut marks);
+        last_passing(&marks[..self.path.len()], a, b)
+    }
 }

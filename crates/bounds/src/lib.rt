@@ -13,7 +13,6 @@ mod walk;
 
 ghost use Rattle.bounds.specs.Calls.{BoundAnswers, TakenWrites, TotalsWrites, ListAnswers, ListWrites, CurveAnswers, CurveValuesWrites, CurveMarksWrites, CurveDeclines, CutAnswers};
 
-use entries::{find_cut, write_curve};
 use list::{charge_of, check_list, write_bounds};
 use path::check_path;
 use reader::family::region_count;
@@ -21,6 +20,7 @@ use reader::refusal::Refusal;
 use rows::line_value;
 use selection::{check_bound, check_selection};
 use taking::write_bound;
+use walk::Walk;
 
 // What a list of selections is charged, or why it is declined; and the tally with that charge added.
 #[derive(Clone, Copy, PartialEq, Eq)]
@@ -89,7 +89,12 @@ pub fn curve(file: &[u8], path: &[u16], values: &mut [u16], marks: &mut [u8]) ->
     if values.len() <= path.len() || marks.len() < path.len() {
         return Err(Refusal::Room);
     }
-    write_curve(file, &parents, path, values, marks);
+    let walk = Walk {
+        file,
+        parents: &parents,
+        path,
+    };
+    walk.write_curve(values, marks);
     Ok(())
 }
 
@@ -102,5 +107,10 @@ pub fn cut(file: &[u8], path: &[u16], a: u16, b: u16) -> Result<u16, Refusal>
     if b == 0 || b < a {
         return Err(Refusal::Fraction);
     }
-    Ok(find_cut(file, &parents, path, a, b))
+    let walk = Walk {
+        file,
+        parents: &parents,
+        path,
+    };
+    Ok(walk.find_cut(a, b))
 }

@@ -35,6 +35,7 @@ fn fill_spare(file: &[u8], spare: &mut [u16; 8191])
 }
 
 // What a walk along a path goes by: the family, the parent of each region, and for each leaf the innermost region that holds it.
+// Regions have numbers from 1, and 0 is none, as in the parents that are handed out.
 #[derive(Clone, Copy)]
 struct Nesting<'a> {
     file: &'a [u8],
@@ -90,22 +91,32 @@ impl Nesting<'_> {
     }
 }
 
-// Writes the marks along a path.
-pub(crate) fn mark_path(file: &[u8], parents: &[u16], path: &[u16], marks: &mut [u8])
-    requires walkable { Walkable (family_of file.now) path.now parents.now }
-    requires path_in_bounds { length path.now ≤ length marks.old }
-    ensures { marks.new ≡ curve_marks (family_of file.now) path.now ++ drop (length path.now) marks.old }
-{
-    let mut spare = [0u16; 8191];
-    fill_spare(file, &mut spare);
-    let mut innermost = [0u16; 4097];
-    fill_innermost(file, &mut innermost);
-    let nesting = Nesting {
-        file,
-        parents,
-        innermost: &innermost,
-    };
-    for (t, number) in path.iter().enumerate() {
-        marks[t] = nesting.mark_next(&mut spare, Peptide(*number));
+// A path along which a family is walked, with the family and the parent of each of its regions.
+#[derive(Clone, Copy)]
+pub(crate) struct Walk<'a> {
+    pub(crate) file: &'a [u8],
+    pub(crate) parents: &'a [u16],
+    pub(crate) path: &'a [u16],
+    ghost walkable: { ∥ Walkable (family_of file.now) path.now parents.now ∥₁ },
+}
+
+impl Walk<'_> {
+    // Writes the marks along the path.
+    pub(crate) fn write_marks(&self, marks: &mut [u8])
+        requires { length self.now.path.now ≤ length marks.old }
+        ensures { marks.new ≡ curve_marks (family_of self.now.file.now) self.now.path.now ++ drop (length self.now.path.now) marks.old }
+    {
+        let mut spare = [0u16; 8191];
+        fill_spare(self.file, &mut spare);
+        let mut innermost = [0u16; 4097];
+        fill_innermost(self.file, &mut innermost);
+        let nesting = Nesting {
+            file: self.file,
+            parents: self.parents,
+            innermost: &innermost,
+        };
+        for (t, number) in self.path.iter().enumerate() {
+            marks[t] = nesting.mark_next(&mut spare, Peptide(*number));
+        }
     }
 }

@@ -1,4 +1,5 @@
-// The program's text, written piece by piece.
+// The program's text, written piece by piece. `write!` is not used: its promise speaks of what is written if it succeeds, and nothing
+// says that it does.
 ghost use Rattle.std.specs.Prelude.{◌≡◌, ◌+◌, ◌++◌, ◌≤◌, length};
 ghost use Rattle.reader.specs.Refusals.{number_of};
 ghost use Rattle.curve.specs.Text.{field_of, line_of, table_of, refusal as refusal_line};

@@ -114,9 +114,6 @@ capped_more X before here =
 pub blocks_ahead : (w x b : ℕ) → 1 ≤ w → b < x / w → w * (b + 1) ≤ x
 blocks_ahead w x b some l = omega (arith, mul-le-mul_left w l)
 
-pub blocks_passed : (w x b : ℕ) → 1 ≤ w → x / w ≤ b → x < w * (b + 1)
-blocks_passed w x b some l = omega (arith, mul-le-mul_left w l)
-
 pub bool_few : (b : Bool) → from_bool b ≤ 1
 bool_few true = omega arith
 bool_few false = omega arith

@@ -22,7 +22,8 @@ pub(crate) struct Walk<'a> {
     ghost among: { passed.0 ≤ leaves },
 }
 
-// The leaf length at a byte that lies in the file with the next one.
+// The leaf length at a byte that lies in the file with the next one. The reader's `number_at` tests that, and no public function may
+// ask it of its callers.
 #[tactic(auto, unfolding(reader::specs::Bytes::number_at))]
 fn length_at(file: &[u8], at: usize) -> u16
     requires { at + 2 ≤ length file.now }

@@ -8,7 +8,7 @@ ghost use Rattle.levels.specs.Private.Leveling.{one_deeper, LevelsBelow, Parente
 use reader::family::region_count;
 use reader::refusal::Refusal;
 
-// One more than the level of the region of that number; 1 for none.
+// One more than the level of the region of that number, from 1 as in the parents; 1 for none.
 fn one_deeper(levels: &[u16], number: u16) -> u16
     requires number_in_bounds { number ≤ length levels.now }
     requires by_index { (i : ℕ) → i < number → get_or levels.now i 0 ≤ 64 }

@@ -40,7 +40,8 @@ impl Listing<'_> {
         self.file.len() - 128
     }
 
-    // The k-th region as the file lists it, counted from 0.
+    // The k-th region as the file lists it, counted from 0. Its record is read as in reader, which reads a family file: one function for
+    // both would need as many lines of contract as it saves.
     pub(crate) fn region(&self, k: u16) -> Region
         requires { k < region_count (listed_family self.now.file.now) }
         ensures { held result ≡ region (listed_family self.now.file.now) k }

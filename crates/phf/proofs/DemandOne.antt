@@ -2,7 +2,7 @@
 -- it does its work. Over all inputs, and over what each call answers and leaves by its promise. A slice that is lent to be read cannot
 -- be written, so only those that are lent for outputs are named; that every call ends is part of the proof of each function.
 -- It speaks of every call that has causes. Those of reader that answer, or leave, a total definition of any bytes (`leaf_length`,
--- `peptides_between`, `region_of`, the counts, `number_at`, `put_number`, `put_numbers`) have none, nor have `leaf_of` of
+-- `peptides_between`, `region_of`, the counts, `number_at`, `number_of`, `put_number`, `put_numbers`, `same_bytes`, `smaller`) have none, nor have `leaf_of` of
 -- leaves and `passes` of volcano; the program's text has a theorem of its own (`program_theorem`).
 use Prim.Native.Nat.{ℕ, ◌+◌, ◌*◌}
 use mathlib.Core.Bool.{Bool, cond}

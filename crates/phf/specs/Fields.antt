@@ -49,7 +49,7 @@ part_fields file =
 abbrev pub bounded_fields : Report → PhfBounded
 bounded_fields r = record { number = r.number; bound = value_at r 0 }
 
--- what `bound_list` answers has these fields already
+-- the report of a list has these fields already
 abbrev pub listed_fields : ListReport → PhfListed
 listed_fields r = record { number = r.number; charge = r.charge; tally = r.tally }
 

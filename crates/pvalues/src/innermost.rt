@@ -1,4 +1,5 @@
-// The innermost region of each peptide, and the number of peptides of each region, from one pass over the regions.
+// The innermost region of each peptide, and the number of peptides of each region, from one pass over the regions. Regions have
+// numbers from 1, and 0 is none, as in the parents that are handed out.
 ghost use Rattle.std.specs.Prelude.{◌≡◌, ℕ, ◌-◌, ◌≤◌, length, get_or};
 ghost use Rattle.reader.specs.Family.{family_of, leaves, peptides_up_to};
 ghost use Rattle.reader.specs.WellFormed.{WellFormed};

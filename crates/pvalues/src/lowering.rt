@@ -12,7 +12,8 @@ pub(crate) struct Lowering {
 }
 
 impl Lowering {
-    // One of its p-values, no less than those before it, is no longer left.
+    // One of its p-values, no less than those before it, is no longer left. That it is 1,000,000 at most is asked where it is used: a
+    // type for that would be longer.
     pub(crate) fn lower(&mut self, p: u32, deviation_squared: u32)
         requires p_bound { p ≤ 1000000 }
         requires constant_bound { deviation_squared ≤ 100000000 }

@@ -110,7 +110,8 @@ fn misplaced_region(file: WholeFile) -> bool
     false
 }
 
-// A region stands before another: by first leaf rising and, at equal first leaf, by last leaf falling.
+// A region stands before another: by first leaf rising and, at equal first leaf, by last leaf falling. No derived order is this one:
+// the last leaves fall, and z does not count.
 fn before(r: Region, q: Region) -> bool
     ensures { result ≡ before (held r) (held q) }
 {

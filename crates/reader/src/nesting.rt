@@ -55,7 +55,8 @@ pub(crate) fn fill_parents(file: WholeFile, parents: &mut [u16; 8191]) -> bool
     false
 }
 
-// One more than the depth of the region of that number; 0 for none.
+// One more than the depth of the region of that number; 0 for none. Its namesake in levels counts from 1, in numbers of two bytes: one
+// function for both would be a public one, and none of these may ask for room in the list.
 fn one_deeper(depths: &[u8], number: u16) -> u8
     requires number_in_bounds { number ≤ length depths.now }
     requires by_index { (i : ℕ) → i < number → get_or depths.now i 0 ≤ 63 }

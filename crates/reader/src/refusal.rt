@@ -5,32 +5,59 @@ ghost use Rattle.reader.specs.Refusals.{number_of};
 // The cause for which a call declines, with the place that is returned beside it.
 #[derive(Clone, Copy, PartialEq, Eq)]
 pub enum Refusal {
+    // Fewer than 16 bytes, or another mark.
     Mark,
+    // m.
     PeptideCount,
+    // N.
     LeafCount,
+    // K.
     RegionCount,
+    // The offsets, the total, or the number of bytes.
     Layout,
+    // They do not add up to m.
     LeafLengths,
+    // A region whose leaves are not leaves of the family.
     Misplaced,
+    // A region not after the one before it.
     Misordered,
+    // Two regions share a leaf, neither inside the other.
     Crossing,
+    // More than 63 regions around one.
     TooDeep,
+    // A path longer than m, or in the program with an odd number of bytes.
     PathLength,
+    // A number of the path that is no peptide.
     OffTheLine,
+    // A peptide that stands twice in the path, with the place where it stands again.
     Repeated(u16),
+    // Not m bytes, or a byte over 1.
     Selection,
+    // a / b, where the path is cut.
     Fraction,
+    // An output too short.
     Room,
+    // The p-values and folds of a choice, or its output, not m.
     RowCount,
+    // A p-value outside 0 to 1, or a fold not finite.
     Row,
+    // A cut that is no number, or a band under 0.
     Rule,
+    // The p-values in millionths, not m.
     PValueCount,
+    // One over 1,000,000 millionths.
     PValue,
+    // The constant for bounds from p-values.
     Deviation,
+    // The level of the Simes bound.
     Level,
+    // More than 32 selections.
     ListLength,
+    // The tally would not fit.
     Tally,
+    // Those of a file by level do not add up to K.
     LevelCounts,
+    // A region of such a file not at its place, or there twice.
     Levels,
 }
 

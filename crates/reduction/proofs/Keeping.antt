@@ -1,5 +1,6 @@
 -- What follows the code that finds the kept stretches and lists the reduced ranges (`keep`).
 pub mod HandedOn
+pub mod Known
 pub mod StretchPlaces
 pub mod Weighing
 pub mod Marking

@@ -10,6 +10,14 @@ ghost use Rattle.reduction.specs.Private.Keeping.{WithStretches, same_ends, firs
 use crate::stretch::Stretch;
 use reader::family::{Peptide, peptide_count, region_count, region_of};
 
+// A well-formed family and the stretch of each of its regions.
+#[derive(Clone, Copy)]
+struct Family<'a> {
+    file: &'a [u8],
+    stretches: &'a [Stretch],
+    ghost with_stretches: { ∥ WithStretches (family_of file.now) (firsts_of stretches.now) (lasts_of stretches.now) ∥₁ },
+}
+
 // Going outward from a region: the smallest z of its stretch, and the smallest z of the other stretches. Where there is
 // no other, 65,535 stands for it: a kept z is less than its room, a 16-bit number, and so less than 65,535.
 #[derive(Clone, Copy)]
@@ -104,64 +112,6 @@ impl Ranges<'_> {
     }
 }
 
-// The weights of the k-th region, from those of its parent. What is around a region with a stretch has one too,
-// and regions with the same stretch follow each other outward.
-fn weigh_region(
-    file: &[u8],
-    parents: &[u16],
-    stretches: &[Stretch],
-    weights: WeightsOf,
-    k: u16,
-) -> Weights
-    requires with_stretches { WithStretches (family_of file.now) (firsts_of stretches.now) (lasts_of stretches.now) }
-    requires parents_below { ParentsBelow (family_of file.now) parents.now (region_count (family_of file.now)) }
-    requires weighed_below { WeighedBelow (family_of file.now) weights.least.now weights.around.now k }
-    requires k_bound { k < region_count (family_of file.now) }
-    ensures { 1 ≤ first_at (family_of file.now) k → Weighed (family_of file.now) k result.least result.around }
-{
-    let z = region_of(file, k).z;
-    let number = nth(parents, k);
-    if number == 0 {
-        return Weights {
-            least: z,
-            around: 65535,
-        };
-    }
-    let parent = number - 1;
-    let outer = weights.at(parent);
-    if same_stretch(stretches, parent, k) {
-        Weights {
-            least: z.min(outer.least),
-            around: outer.around,
-        }
-    } else {
-        Weights {
-            least: z,
-            around: outer.least.min(outer.around),
-        }
-    }
-}
-
-// Writes the weights of every region.
-fn weigh(
-    file: &[u8],
-    parents: &[u16],
-    stretches: &[Stretch],
-    least: &mut [u16; 8191],
-    around: &mut [u16; 8191],
-)
-    requires with_stretches { WithStretches (family_of file.now) (firsts_of stretches.now) (lasts_of stretches.now) }
-    requires parents_below { ParentsBelow (family_of file.now) parents.now (region_count (family_of file.now)) }
-    ensures { WeighedBelow (family_of file.now) least.new around.new (region_count (family_of file.now)) }
-{
-    let regions = region_count(file);
-    for k in 0..regions {
-        let weights = weigh_region(file, parents, stretches, WeightsOf { least, around }, k);
-        least[k as usize] = weights.least;
-        around[k as usize] = weights.around;
-    }
-}
-
 // The z of the k-th region's stretch if it is kept and no later region has it, else 0, which an array of numbers has room for.
 // `next` is the next region with a stretch. Of regions with the same stretch only the last, innermost one knows the room.
 #[tactic(auto, unfolding(crate::specs::Private::Keeping::kept_bound))]
@@ -182,30 +132,6 @@ fn kept_bound(
         z
     } else {
         0
-    }
-}
-
-// Writes the z of each kept stretch at its innermost region, and 0 at every other region. From the last region to the
-// first, so that the next region with a stretch is at hand.
-fn mark_kept(
-    file: &[u8],
-    totals: &[u16],
-    stretches: &[Stretch],
-    weights: WeightsOf,
-    kept: &mut [u16; 8191],
-)
-    requires with_stretches { WithStretches (family_of file.now) (firsts_of stretches.now) (lasts_of stretches.now) }
-    requires totals_below { TotalsBelow (family_of file.now) totals.now }
-    requires weighed_below { WeighedBelow (family_of file.now) weights.least.now weights.around.now (region_count (family_of file.now)) }
-    ensures { KeptMarked (family_of file.now) kept.new 0 }
-{
-    let mut next = None;
-    let regions = region_count(file);
-    for k in (0..regions).rev() {
-        kept[k as usize] = kept_bound(totals, stretches, weights, next, k);
-        if stretch_at(stretches, k).first != 0 {
-            next = Some(k);
-        }
     }
 }
 
@@ -260,29 +186,91 @@ fn append_runs(file: &[u8], live: &[u8], begin: u16, end: u16, ranges: &mut Rang
     }
 }
 
-// Lists the kept stretches in file order, each after the runs that begin before it. A stretch begins live and a run dead,
-// so the runs up to the first peptide of a stretch all come before it.
-fn gather(file: &[u8], live: &[u8], stretches: &[Stretch], kept: &[u16], ranges: &mut Ranges)
-    requires with_stretches { WithStretches (family_of file.now) (firsts_of stretches.now) (lasts_of stretches.now) }
-    requires kept_marked { KeptMarked (family_of file.now) kept.now 0 }
-    requires runs_ahead { RunsAhead (family_of file.now) live.now 1 ((family_of file.now).peptides + 1) }
-    requires whole { Whole ranges.old }
-    requires none_yet { ranges.old.count ≡ 0 }
-    ensures same_arrays { SameArrays ranges.old ranges.new }
-    ensures listed { Listed file.now ranges.new.count ranges.new.from.now ranges.new.to.now ranges.new.bounds.now }
-{
-    let mut begin = 1;
-    for k in 0..region_count(file) {
-        let z = nth(kept, k);
-        if z != 0 {
-            let stretch = stretch_at(stretches, k);
-            let after = stretch.first + 1;
-            append_runs(file, live, begin, after, ranges);
-            ranges.push(stretch.first, stretch.last, z);
-            begin = after;
+impl Family<'_> {
+    // The weights of the k-th region, from those of its parent. What is around a region with a stretch has one too,
+    // and regions with the same stretch follow each other outward.
+    fn weigh_region(&self, parents: &[u16], weights: WeightsOf, k: u16) -> Weights
+        requires parents_below { ParentsBelow (family_of self.now.file.now) parents.now (region_count (family_of self.now.file.now)) }
+        requires weighed_below { WeighedBelow (family_of self.now.file.now) weights.least.now weights.around.now k }
+        requires k_bound { k < region_count (family_of self.now.file.now) }
+        ensures { 1 ≤ first_at (family_of self.now.file.now) k → Weighed (family_of self.now.file.now) k result.least result.around }
+    {
+        let z = region_of(self.file, k).z;
+        let number = nth(parents, k);
+        if number == 0 {
+            return Weights {
+                least: z,
+                around: 65535,
+            };
+        }
+        let parent = number - 1;
+        let outer = weights.at(parent);
+        if same_stretch(self.stretches, parent, k) {
+            Weights {
+                least: z.min(outer.least),
+                around: outer.around,
+            }
+        } else {
+            Weights {
+                least: z,
+                around: outer.least.min(outer.around),
+            }
         }
     }
-    append_runs(file, live, begin, peptide_count(file) + 1, ranges);
+
+    // Writes the weights of every region.
+    fn weigh(&self, parents: &[u16], least: &mut [u16; 8191], around: &mut [u16; 8191])
+        requires parents_below { ParentsBelow (family_of self.now.file.now) parents.now (region_count (family_of self.now.file.now)) }
+        ensures { WeighedBelow (family_of self.now.file.now) least.new around.new (region_count (family_of self.now.file.now)) }
+    {
+        let regions = region_count(self.file);
+        for k in 0..regions {
+            let weights = self.weigh_region(parents, WeightsOf { least, around }, k);
+            least[k as usize] = weights.least;
+            around[k as usize] = weights.around;
+        }
+    }
+
+    // Writes the z of each kept stretch at its innermost region, and 0 at every other region. From the last region to the
+    // first, so that the next region with a stretch is at hand.
+    fn mark_kept(&self, totals: &[u16], weights: WeightsOf, kept: &mut [u16; 8191])
+        requires totals_below { TotalsBelow (family_of self.now.file.now) totals.now }
+        requires weighed_below { WeighedBelow (family_of self.now.file.now) weights.least.now weights.around.now (region_count (family_of self.now.file.now)) }
+        ensures { KeptMarked (family_of self.now.file.now) kept.new 0 }
+    {
+        let mut next = None;
+        let regions = region_count(self.file);
+        for k in (0..regions).rev() {
+            kept[k as usize] = kept_bound(totals, self.stretches, weights, next, k);
+            if stretch_at(self.stretches, k).first != 0 {
+                next = Some(k);
+            }
+        }
+    }
+
+    // Lists the kept stretches in file order, each after the runs that begin before it. A stretch begins live and a run dead,
+    // so the runs up to the first peptide of a stretch all come before it.
+    fn gather(&self, live: &[u8], kept: &[u16], ranges: &mut Ranges)
+        requires kept_marked { KeptMarked (family_of self.now.file.now) kept.now 0 }
+        requires runs_ahead { RunsAhead (family_of self.now.file.now) live.now 1 ((family_of self.now.file.now).peptides + 1) }
+        requires whole { Whole ranges.old }
+        requires none_yet { ranges.old.count ≡ 0 }
+        ensures same_arrays { SameArrays ranges.old ranges.new }
+        ensures listed { Listed self.now.file.now ranges.new.count ranges.new.from.now ranges.new.to.now ranges.new.bounds.now }
+    {
+        let mut begin = 1;
+        for k in 0..region_count(self.file) {
+            let z = nth(kept, k);
+            if z != 0 {
+                let stretch = stretch_at(self.stretches, k);
+                let after = stretch.first + 1;
+                append_runs(self.file, live, begin, after, ranges);
+                ranges.push(stretch.first, stretch.last, z);
+                begin = after;
+            }
+        }
+        append_runs(self.file, live, begin, peptide_count(self.file) + 1, ranges);
+    }
 }
 
 // The reduced ranges in file order: the first peptide, the last one and the bound of each; returns how many there are.
@@ -302,18 +290,19 @@ pub(crate) fn list_reduced(
     requires stretched { Stretched file.now live.now (firsts_of stretches.now) (lasts_of stretches.now) }
     ensures { Listed file.now result from.new to.new bounds.new }
 {
-    weigh(file, parents, stretches, from, to);
+    let family = Family { file, stretches };
+    family.weigh(parents, from, to);
     let weights = WeightsOf {
         least: from,
         around: to,
     };
-    mark_kept(file, bounds, stretches, weights, parents);
+    family.mark_kept(bounds, weights, parents);
     let mut ranges = Ranges {
         from,
         to,
         bounds,
         count: 0,
     };
-    gather(file, live, stretches, parents, &mut ranges);
+    family.gather(live, parents, &mut ranges);
     ranges.count
 }

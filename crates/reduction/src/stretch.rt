@@ -12,7 +12,7 @@ use reader::family::{
 
 // The low and high ends of the regions. Two arrays and not one of pairs: their places hold the weights and then the ranges
 // afterwards (fixed memory), and an array of pairs for all three could not name them. That they are right is asked by the
-// functions: as a ghost field it did not prove, which wants a fact with one proof, and nesting is an "or".
+// functions: as a ghost field it did not prove, since it has more proofs than one (that regions nest is an "or").
 #[derive(Clone, Copy)]
 struct RegionEnds<'a> {
     lows: &'a [u16; 8191],

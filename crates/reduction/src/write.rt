@@ -48,7 +48,8 @@ fn write_header(
     total
 }
 
-// Marks the peptides after which a range begins or at which one ends, and m: there the leaves of the file to be written end. Place
+// Marks the peptides after which a range begins or at which one ends, and m: there the leaves of the file to be written end. That m
+// is 4,096 at most is asked where it is used: a type for that would be longer. Place
 // 0 is marked too where a range begins at peptide 1; nobody asks there.
 fn mark_borders(m: u16, ranges: Ranges, borders: &mut [bool; 4097])
     requires on_line { OnLine m (length ranges.from.now) ranges.from.now ranges.to.now }

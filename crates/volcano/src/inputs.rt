@@ -8,7 +8,7 @@ ghost use Rattle.volcano.specs.Calls.{choose_causes};
 use crate::Rule;
 use reader::refusal::Refusal;
 
-// m is 0 or over 4,096.
+// m is 0 or over 4,096: cause 2 of a number, where reader tries it of a file.
 #[tactic(auto, unfolding(reader::specs::Causes::cause2))]
 fn bad_count(m: u16) -> bool
     ensures { result ≡ cause2 m }

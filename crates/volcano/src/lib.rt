@@ -38,7 +38,7 @@ pub fn passes(rule: Rule, row: Row) -> bool
     }
 }
 
-// Writes for each row 1 if it passes the rule, else 0.
+// Writes for each row 1 if it passes the rule, else 0. The rows come as two slices, as C has them.
 fn write_chosen(p_values: &[f64], folds: &[f64], rule: Rule, out: &mut [u8])
     requires { (length p_values.now ≡ length folds.now) × (length p_values.now ≤ length out.old) }
     ensures { out.new ≡ chosen rule p_values.now folds.now ++ drop (length p_values.now) out.old }

@@ -4,7 +4,6 @@ use mathlib.Core.Path.{subst}
 use Rattle.std.proofs.lemmas.Result.{err_from_is_err_and}
 use Rattle.reader.specs.Calls.{ParentsAnswers}
 use Rattle.reader.specs.Causes.{Accepted}
-use Rattle.reduction.specs.declared.PairRefusal.TheVariants.{First, Second}
 use Rattle.reduction.proofs.Calls.ReduceCalls.{file_accepted, file_refused, parents_there, mapped_err, mapped_ok, first_refused, second_refused, compared}
 use Rattle.reduction.proofs.same.Goals as goal
 use Rattle.reduction.proofs.same.Goals.{In_ok-map_err, In_ok-map_err-2}

@@ -1,12 +1,13 @@
 use Rattle.std.proofs.Common.{◌≤◌, length-set, arith}
 use Rattle.reader.specs.Family.{family_of, region_count}
+use Rattle.reduction.proofs.Keeping.Known.{is_known}
 use Rattle.reduction.proofs.Keeping.Weighing.{weighed_more}
 use Rattle.reduction.proofs.Keeping.Gathering.{regions_few}
-use Rattle.reduction.proofs.keep.weigh.Goals as goal
-use Rattle.reduction.proofs.keep.weigh.Goals.{In-loop-k}
+use Rattle.reduction.proofs.keep.Family.weigh.Goals as goal
+use Rattle.reduction.proofs.keep.Family.weigh.Goals.{In-loop-k}
 
-few : (c : In-loop-k) → region_count (family_of c.args.file.now) ≤ 8191
-few c = regions_few c.requires.with_stretches.well_formed
+few : (c : In-loop-k) → region_count (family_of c.args.self.now.file.now) ≤ 8191
+few c = regions_few (is_known c.args.self.now.with_stretches).well_formed
 
 pub bounds-least-k : goal.bounds-least-k
 bounds-least-k c = omega (arith, few (goal.at.bounds-least-k c).In-loop-k)

@@ -10,10 +10,10 @@ use Rattle.bounds.specs.Curves.{mark_at}
 use Rattle.bounds.proofs.Basics.Counting.{none}
 use Rattle.bounds.proofs.Theory.Greedy.{greedy}
 use Rattle.bounds.proofs.Walking.Steps.{SpareFor}
-use Rattle.bounds.proofs.walk.mark_path.Given as goal
+use Rattle.bounds.proofs.walk.Walk.write_marks.Given as goal
 
 abbrev pub invariant-loop-t : goal.invariant-loop-t
 invariant-loop-t l = record {
-  marks : l.marks ≡ tabulate l.t (λ i. mark_at (family_of l.file) l.path (i + 1)) ++ drop l.t l.initial.marks;
-  spare : SpareFor (family_of l.file) (greedy (family_of l.file).peptides (ranges_of (family_of l.file)) none (take l.t l.path)) l.spare;
+  marks : l.marks ≡ tabulate l.t (λ i. mark_at (family_of l.self.file.now) l.self.path.now (i + 1)) ++ drop l.t l.initial.marks;
+  spare : SpareFor (family_of l.self.file.now) (greedy (family_of l.self.file.now).peptides (ranges_of (family_of l.self.file.now)) none (take l.t l.self.path.now)) l.spare;
 }
