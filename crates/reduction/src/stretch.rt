@@ -52,7 +52,7 @@ fn begin_regions(
 
 // Writes the high ends of the regions that end at the leaf, whose last peptide is known: the innermost open region,
 // then its parents, since what is around an open region is open. Returns the number of the innermost one
-// that stays open.
+// that stays open. Regions have numbers from 1, and 0 is none, as in the parents that are handed out.
 fn end_regions(
     file: &[u8],
     parents: &[u16; 8191],
