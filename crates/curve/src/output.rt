@@ -1,5 +1,5 @@
 // From the bytes of the two files to the text that the program prints, and the printing of it.
-ghost use Rattle.std.specs.Prelude.{◌≡◌, ◌≤◌, length, MatchResult};
+ghost use Rattle.std.specs.Prelude.{[], ◌≡◌, ◌≤◌, length, MatchResult};
 ghost use Rattle.reader.specs.Causes.{first_cause};
 ghost use Rattle.reader.specs.Refusals.{number_of};
 ghost use Rattle.curve.specs.Buffers.{path_room};
@@ -7,15 +7,16 @@ ghost use Rattle.curve.specs.Program.{program_causes, output};
 
 use crate::buffer::Buffer;
 use crate::input::{FAMILY_ROOM, PATH_ROOM, decode};
-use crate::text::{Text, refusal_text, table_text};
+use crate::text::{Text, put_refusal, put_table};
 use reader::check;
 use reader::refusal::Refusal;
 
-// The table of the path's curve, or the first refusal. An odd byte count of the path is refused like a path that is too long, after
-// what is wrong with the family.
-fn curve_table(family: &[u8], path: &[u8]) -> Result<Text, Refusal>
-    requires { length path.now ≤ path_room }
-    ensures { MatchResult result (λ text. text ≡ output family.now path.now) (λ refusal. number_of refusal ≡ first_cause (program_causes family.now path.now)) }
+// Writes the table of the path's curve in a text that is empty, or declines by the first refusal. An odd byte count of the path is refused
+// like a path that is too long, after what is wrong with the family.
+fn put_curve_table(family: &[u8], path: &[u8], text: &mut Text) -> Result<(), Refusal>
+    requires path_in_bounds { length path.now ≤ path_room }
+    requires empty { text.old ≡ [] }
+    ensures { MatchResult result (λ done. text.new ≡ output family.now path.now) (λ refusal. (number_of refusal ≡ first_cause (program_causes family.now path.now)) × (text.new ≡ [])) }
 {
     if path.len() % 2 == 1 {
         check(family)?;
@@ -26,17 +27,19 @@ fn curve_table(family: &[u8], path: &[u8]) -> Result<Text, Refusal>
     let mut values = [0u16; 4097];
     let mut marks = [0u8; 4096];
     bounds::curve(family, &numbers[..n], &mut values, &mut marks)?;
-    Ok(table_text(&numbers[..n], &values, &marks))
+    put_table(text, &numbers[..n], &values, &marks);
+    Ok(())
 }
 
 // What the program prints, from the bytes of the two files.
 pub(crate) fn render(family: &Buffer<FAMILY_ROOM>, path: &Buffer<PATH_ROOM>) -> Text
     ensures { result ≡ output family.now path.now }
 {
-    match curve_table(family.as_slice(), path.as_slice()) {
-        Ok(text) => text,
-        Err(refusal) => refusal_text(refusal),
+    let mut text = Buffer::new();
+    if let Err(refusal) = put_curve_table(family.as_slice(), path.as_slice(), &mut text) {
+        put_refusal(&mut text, refusal);
     }
+    text
 }
 
 // A line on standard error tells a cut table from a whole one.

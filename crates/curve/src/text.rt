@@ -1,6 +1,6 @@
 // The program's text, written piece by piece. `write!` is not used: its promise speaks of what is written if it succeeds, and nothing
 // says that it does.
-ghost use Rattle.std.specs.Prelude.{◌≡◌, ◌+◌, ◌++◌, ◌≤◌, length};
+ghost use Rattle.std.specs.Prelude.{[], ◌≡◌, ◌+◌, ◌++◌, ◌≤◌, length};
 ghost use Rattle.reader.specs.Refusals.{number_of};
 ghost use Rattle.curve.specs.Text.{field_of, line_of, table_of, refusal as refusal_line};
 ghost use Rattle.curve.specs.Buffers.{text_room};
@@ -36,27 +36,26 @@ fn put_line(text: &mut Text, t: u16, peptide: Peptide, value: u16, mark: u8)
     put_field(text, u16::from(mark), b'\n');
 }
 
-// The heading, and a line for each t from 0 to the path's length.
-pub(crate) fn table_text(path: &[u16], values: &[u16; 4097], marks: &[u8; 4096]) -> Text
-    requires { length path.now ≤ 4096 }
-    ensures { result ≡ table_of path.now values.now marks.now }
+// The heading, and a line for each t from 0 to the path's length, in a text that is empty. A text is long, so it is lent and not handed
+// over: each answer that holds one would be a copy of it.
+pub(crate) fn put_table(text: &mut Text, path: &[u16], values: &[u16; 4097], marks: &[u8; 4096])
+    requires empty { text.old ≡ [] }
+    requires short { length path.now ≤ 4096 }
+    ensures { text.new ≡ table_of path.now values.now marks.now }
 {
-    let mut text = Buffer::new();
     text.extend(b"t peptide bound mark\n");
-    put_line(&mut text, 0, Peptide(0), values[0], 0);
+    put_line(text, 0, Peptide(0), values[0], 0);
     for (i, number) in path.iter().enumerate() {
         let t = i + 1;
-        put_line(&mut text, t as u16, Peptide(*number), values[t], marks[i]);
+        put_line(text, t as u16, Peptide(*number), values[t], marks[i]);
     }
-    text
 }
 
-// One line with the number of a refusal.
-pub(crate) fn refusal_text(refusal: Refusal) -> Text
-    ensures { result ≡ refusal_line (number_of refusal) }
+// One line with the number of a refusal, in a text that is empty.
+pub(crate) fn put_refusal(text: &mut Text, refusal: Refusal)
+    requires { text.old ≡ [] }
+    ensures { text.new ≡ refusal_line (number_of refusal) }
 {
-    let mut text = Buffer::new();
     text.extend(b"refused ");
-    put_field(&mut text, u16::from(refusal), b'\n');
-    text
+    put_field(text, u16::from(refusal), b'\n');
 }

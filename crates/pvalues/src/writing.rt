@@ -13,7 +13,7 @@ ghost use Rattle.pvalues.specs.Private.Writing.{with_bounds};
 
 use crate::climbing::find_bounds;
 use crate::lowering::Lowering;
-use reader::bytes::put_numbers;
+use reader::bytes::{copy_bytes, put_numbers};
 use reader::family::{Region, leaf_count, region_count, region_of};
 
 fn put_region(out: &mut [u8], at: usize, region: Region)
@@ -30,7 +30,7 @@ fn write_family(file: &[u8], regions: &[Lowering; 8191], out: &mut [u8])
     ensures { out.new ≡ at_start (file_of (with_bounds (family_of file.now) (z_of_each regions.now))) out.old }
 {
     let start = 16 + 2 * (leaf_count(file) as usize);
-    out[..start].copy_from_slice(&file[..start]);
+    copy_bytes(&file[..start], &mut out[..start]);
     for k in 0..region_count(file) {
         let given = region_of(file, k);
         let z = regions[k as usize].z;

@@ -11,6 +11,7 @@
 --   same_is           it passes for equal lists
 --   pointwise_same    it is the library's test that two slices are equal, and so is it with the lists the other way round (pointwise_swap)
 --   copy_more         a copy of the front of one list into another, one element further
+--   copied_whole      a copy into a list of the same length is the list copied
 --   tabulate_more     `tabulate` with one element more
 --   write_none        a list that is written from the start with f 0, f 1, ..: before the first
 --   write_more        one element further
@@ -22,11 +23,11 @@ use native.Mathlib.Nat.{not-suc-le-zero, le_of_suc-le-suc}
 use native.Mathlib.Omega.{arith}
 use native.Mathlib.Numerals.{add-one}
 use mathlib.Core.Bool.{Bool, true, false}
-use mathlib.Core.List.{List, [], ◌∷◌, ◌++◌, map}
+use mathlib.Core.List.{List, [], ◌∷◌, ◌++◌, map, append-nil}
 use mathlib.Core.Path.{◌≡◌, refl, sym, ap, ◌∙◌}
 use mathlib.Core.Logic.{⊎_elim}
-use lib.ListN.{length, get_or, take, drop, set, replicate}
-use lib.Seq.{drop-cons, take-suc, set_at, append_snoc, drop-set-lt, length-take-le, get_or-set_same, get_or-set_other}
+use lib.ListN.{length, get_or, take, drop, set, replicate, drop_of_length-le}
+use lib.Seq.{drop-cons, take-suc, take_all, set_at, append_snoc, drop-set-lt, length-take-le, get_or-set_same, get_or-set_other}
 use lib.Dec.{eqb}
 use borrow.Author.Tests.{eqb-true, eq-eqb}
 use Rattle.std.specs.Prelude.{nat_eq, MatchBool}
@@ -111,6 +112,10 @@ pub copy_more :
 copy_more f t i lf lt =
     rw (drop-cons t i 0 lt, set_at (take i f) (get_or t i 0) (drop (suc i) t) (get_or f i 0) i (length-take-le i f (omega arith)), add-one i, take-suc f i 0 lf)
     (sym (append_snoc (take i f) (get_or f i 0) (drop (suc i) t)))
+
+pub copied_whole : (from to : List ℕ) → length from ≡ length to → take (length to) from ++ drop (length from) to ≡ from
+copied_whole from to e =
+    rw (take_all (length to) from (omega arith), drop_of_length-le to {i = length from} (omega arith), append-nil from)
 
 -- Lists that are written from the start.
 

@@ -1,5 +1,5 @@
 // Bytes, and numbers of 2 bytes, low byte first.
-ghost use Rattle.std.specs.Prelude.{◌≡◌, [], ◌∷◌, ◌+◌, ◌*◌, ◌≤◌, min, length, get_or, set};
+ghost use Rattle.std.specs.Prelude.{◌≡◌, [], ◌∷◌, ◌++◌, ◌+◌, ◌*◌, ◌≤◌, min, length, take, drop, get_or, set};
 ghost use Rattle.reader.specs.Bytes.{number_at, with_numbers};
 ghost use Rattle.reader.specs.Lists.{same_list};
 
@@ -84,6 +84,17 @@ pub fn put_numbers(out: &mut [u8], at: usize, numbers: &[u16])
         }
         put_number(out, place, *n);
         place += 2;
+    }
+}
+
+// Copies bytes to the start of the lent slice, as far as it has room. The library's `copy_from_slice` of one lent slice into another is
+// compiled to a call of `memmove`, which the archive for C would then need from outside; this loop is not.
+pub fn copy_bytes(from: &[u8], to: &mut [u8])
+    ensures { to.new ≡ take (length to.old) from.now ++ drop (length from.now) to.old }
+{
+    let n = from.len().min(to.len());
+    for i in 0..n {
+        to[i] = from[i];
     }
 }
 

@@ -50,9 +50,10 @@ pub fn check_layout(file: &[u8], lengths_at: u16) -> Result<(), Refusal>
         return Err(Refusal::RegionCount);
     }
     if bad_layout(file, lengths_at) {
-        return Err(Refusal::Layout);
+        Err(Refusal::Layout)
+    } else {
+        Ok(())
     }
-    Ok(())
 }
 
 // Declines by the first of the causes 1 to 7 that holds: what a family file has to have before its regions are held against each other.

@@ -74,8 +74,13 @@ pub(crate) fn too_deep(file: WholeFile, parents: &[u16; 8191]) -> bool
     requires { Nested (family_of file.bytes.now) parents.now }
     ensures { result ≡ cause10 (family_of file.entry.bytes.now) }
 {
+    let regions = region_count(file.bytes) as usize;
+    // a check of a file without regions would mostly be the setting of depths to 0
+    if regions == 0 {
+        return false;
+    }
     let mut depths = [0u8; 8191];
-    for k in 0..region_count(file.bytes) as usize {
+    for k in 0..regions {
         let depth = one_deeper(&depths, parents[k]);
         if MOST_AROUND < depth {
             return true;

@@ -5,4 +5,4 @@ use Rattle.curve.proofs.output.render.Goals as goal
 
 pub returns-in-Err : goal.returns-in-Err
 returns-in-Err c =
-    rw (← c.as_slice.ensures.value, ← c.as_slice-2.ensures.value, prints_refusal _ _ _ c.in-Err.ensures (number_some _)) c.refusal_text.ensures
+    rw (← c.as_slice.ensures.value, ← c.as_slice-2.ensures.value, prints_refusal _ _ _ c.in-Err.ensures.0 (number_some _)) c.put_refusal.ensures

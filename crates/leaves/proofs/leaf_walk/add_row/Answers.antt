@@ -1,4 +1,4 @@
-use Rattle.std.proofs.Common.{ℕ, sum, set, sym, refl, ap, arith}
+use Rattle.std.proofs.Common.{ℕ, sum, set, refl, ap, arith}
 use Rattle.leaves.proofs.Walk.{added_none, added_next, capped_same, capped_as, capped_more, capped_lane}
 use Rattle.leaves.proofs.leaf_walk.add_row.Goals as goal
 
@@ -12,5 +12,5 @@ loop-i-preserved c =
     let lanes = c.loop-i.lanes in
     capped_as
     (omega (arith, c.length_at.ensures, added_next c.args.file.now c.args.at i))
-    (ap (λ (n : ℕ). sum (set lanes i n)) (sym c.saturating_add.ensures))
+    (ap (λ (n : ℕ). sum (set lanes i n)) (omega arith))
     (capped_more c.length_at.result c.loop-i.invariant (capped_lane lanes i c.length_at.result (omega arith)))

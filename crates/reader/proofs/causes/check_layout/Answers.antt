@@ -52,7 +52,7 @@ returns-then-bad_layout c =
     let s = c.args.file.now in
     sym (layout_5 _ s (no2 (goal.at.returns-then-bad_layout c).Else-m-gt-MOST_PEPTIDES) (no3 (goal.at.returns-then-bad_layout c).Else-n-gt-MOST_LEAVES) ∙ rw (no4 (goal.at.returns-then-bad_layout c).Else-n-k, ← c.bad_layout.ensures, c.if-bad_layout.true))
 
-pub returns : goal.returns
-returns c =
+pub returns-else-bad_layout : goal.returns-else-bad_layout
+returns-else-bad_layout c =
     let s = c.args.file.now in
-    sym (layout_5 _ s (no2 (goal.at.returns c).Else-m-gt-MOST_PEPTIDES) (no3 (goal.at.returns c).Else-n-gt-MOST_LEAVES) ∙ rw (no4 (goal.at.returns c).Else-n-k, ← c.bad_layout.ensures, c.if-bad_layout.false))
+    sym (layout_5 _ s (no2 (goal.at.returns-else-bad_layout c).Else-m-gt-MOST_PEPTIDES) (no3 (goal.at.returns-else-bad_layout c).Else-n-gt-MOST_LEAVES) ∙ rw (no4 (goal.at.returns-else-bad_layout c).Else-n-k, ← c.bad_layout.ensures, c.if-bad_layout.false))

@@ -8,15 +8,19 @@ use Rattle.reader.proofs.nesting.too_deep.Goals as goal
 use Rattle.reader.proofs.nesting.too_deep.Goals.{After-one_deeper-depth, In-loop-k}
 
 here : (c : In-loop-k) → c.loop-k.k < region_count (family_of c.args.file.bytes.now)
-here c = omega (arith, c.loop-k-test.true, c.region_count-k-end.ensures)
+here c = omega (arith, c.loop-k-test.true, c.region_count-regions.ensures)
 
 -- what the loop's body counts is the number of regions around the k-th one
 depth-read : (c : After-one_deeper-depth) → c.one_deeper-depth.result ≡ regions_around (family_of c.args.file.bytes.now) c.loop-k.k
 depth-read c =
     let pre = c.requires in
-    let lk : c.loop-k.k < region_count (family_of c.args.file.bytes.now) = omega (arith, c.loop-k-test.true, c.region_count-k-end.ensures) in
+    let lk : c.loop-k.k < region_count (family_of c.args.file.bytes.now) = omega (arith, c.loop-k-test.true, c.region_count-regions.ensures) in
     c.one_deeper-depth.ensures
     ∙ counts_one_deeper _ pre.ordered pre.nested _ _ lk c.loop-k.invariant _ (pre.known c.loop-k.k lk)
+
+pub returns-then-regions-eq0 : goal.returns-then-regions-eq0
+returns-then-regions-eq0 c =
+    sym (not_too_deep (family_of c.args.file.bytes.now) (λ k l. absurd (omega (arith, c.if-regions-eq0.true, c.region_count-regions.ensures))))
 
 pub loop-k-init : goal.loop-k-init
 loop-k-init c = record { depth = λ i l. absurd (omega arith); shallow = λ i l. absurd (omega arith) }
@@ -49,4 +53,4 @@ loop-k-preserved c =
 pub returns : goal.returns
 returns c =
     let s = c.args.file.bytes.now in
-    sym (not_too_deep (family_of s) (λ k l. c.loop-k.invariant.shallow k (omega (arith, c.region_count-k-end.ensures))))
+    sym (not_too_deep (family_of s) (λ k l. c.loop-k.invariant.shallow k (omega (arith, c.region_count-regions.ensures))))

@@ -21,8 +21,8 @@ use Rattle.bounds.proofs.Calls.Answering.{path_number}
 use Rattle.curve.specs.Program.{odd, program_causes, path_of, text_of}
 use Rattle.curve.specs.Text.{table_of}
 use Rattle.curve.proofs.Printing.{odd_path, even_number, even_path, curve_number, short_path, prints_table, table_same, values_room, marks_room}
-use Rattle.curve.proofs.output.curve_table.Goals as goal
-use Rattle.curve.proofs.output.curve_table.Goals.{In_ok-curve}
+use Rattle.curve.proofs.output.put_curve_table.Goals as goal
+use Rattle.curve.proofs.output.put_curve_table.Goals.{In_ok-curve}
 
 -- the causes of the curve with the zeros that are lent to it are those of the family and the path
 same : (s path : List ℕ) → first_cause (curve_causes s path (replicate 4097 0) (replicate 4096 0)) ≡ first_cause (input_causes s path)
@@ -49,22 +49,23 @@ pub returns-in_err-check : goal.returns-in_err-check
 unfolding program_causes
 returns-in_err-check c =
     let refusal = c.in_err-check.field-0.0 in
-    rw (handed_on c.from_residual.result refusal c.from_residual.ensures.1) (first_of refusal (file_causes c.args.family.now) (learns_refused _ _ c.in_err-check.ensures) _)
+    rw (handed_on c.from_residual.result refusal c.from_residual.ensures.1)
+    (first_of refusal (file_causes c.args.family.now) (learns_refused _ _ c.in_err-check.ensures) _, c.requires.empty)
 
 pub returns-then-path-eq1 : goal.returns-then-path-eq1
 unfolding odd
 returns-then-path-eq1 c =
-    sym (odd_path c.args.family.now c.args.path.now (learns_accepted _ _ c.in_ok-check.ensures).accepted (eq-eqb _ 1 c.if-path-eq1.true))
+    (sym (odd_path c.args.family.now c.args.path.now (learns_accepted _ _ c.in_ok-check.ensures).accepted (eq-eqb _ 1 c.if-path-eq1.true)), c.requires.empty)
 
 pub returns-in_err-curve : goal.returns-in_err-curve
 unfolding odd
 returns-in_err-curve c =
     let refusal = c.in_err-curve.field-0.0 in
     rw (handed_on c.from_residual-in_err-curve.result refusal c.from_residual-in_err-curve.ensures.1)
-    (refused c.args.family.now c.args.path.now _ refusal c.decode-n.ensures.path (ne_eqb _ 1 c.if-path-eq1.false) c.in_err-curve.ensures.curve_answers)
+    (refused c.args.family.now c.args.path.now _ refusal c.decode-n.ensures.path (ne_eqb _ 1 c.if-path-eq1.false) c.in_err-curve.ensures.curve_answers, c.requires.empty)
 
-pub table_text-requires : goal.table_text-requires
-table_text-requires c = short_path _ _ (clear (goal.at.table_text-requires c).In_ok-curve)
+pub put_table-requires : goal.put_table-requires
+put_table-requires c = record { empty = c.requires.empty; short = short_path _ _ (clear (goal.at.put_table-requires c).In_ok-curve) }
 
 pub returns : goal.returns
 unfolding odd
@@ -75,7 +76,7 @@ returns c =
     let F = family_of s in
     let e = unchecked (goal.at.returns c).In_ok-curve in
     let answer = c.in_ok-curve.ensures in
-    c.table_text.ensures
+    c.put_table.ensures
     ∙ ap₂ (table_of path) (answer.curve_values_writes ∙ writes _ e (curve_values F path) _) (answer.curve_marks_writes ∙ writes _ e (curve_marks F path) _)
     ∙ table_same path (curve_values F path) _ (curve_marks F path) _ (values_room F path) (marks_room F path)
     ∙ sym (prints_table s path (clear (goal.at.returns c).In_ok-curve))

@@ -6,15 +6,15 @@ use mathlib.Core.Path.{◌≡◌, ap, sym}
 use lib.ListN.{length, length-append}
 use Rattle.curve.specs.Text.{heading, table_of, row_at}
 use Rattle.curve.proofs.Pieces.{row_next, rows_one, rows_next, table_short}
-use Rattle.curve.proofs.text.table_text.Goals as goal
+use Rattle.curve.proofs.text.put_table.Goals as goal
 
 pub loop-i-init : goal.loop-i-init
 unfolding heading
-loop-i-init c = rw (c.put_line.ensures, c.extend.ensures, c.new-text.ensures, rows_one c.args.path.now c.args.values.now c.args.marks.now)
+loop-i-init c = rw (c.put_line.ensures, c.extend.ensures, c.requires.empty, rows_one c.args.path.now c.args.values.now c.args.marks.now)
 
 pub put_line-requires-in-loop-i : goal.put_line-requires-in-loop-i
 put_line-requires-in-loop-i c =
-    omega (arith, length-append {A = ℕ}, ap length c.loop-i.invariant, table_short c.args.path.now c.args.values.now c.args.marks.now (c.loop-i.i + 1), c.requires)
+    omega (arith, length-append {A = ℕ}, ap length c.loop-i.invariant, table_short c.args.path.now c.args.values.now c.args.marks.now (c.loop-i.i + 1), c.requires.short)
 
 pub loop-i-preserved : goal.loop-i-preserved
 loop-i-preserved c =

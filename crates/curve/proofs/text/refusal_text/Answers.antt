@@ -1,7 +1,0 @@
--- The word and a blank, then the number.
-use Rattle.curve.specs.Text.{refusal}
-use Rattle.curve.proofs.text.refusal_text.Goals as goal
-
-pub returns : goal.returns
-unfolding refusal
-returns c = rw (c.put_field.ensures, c.extend.ensures, c.new-text.ensures, c.from.ensures)
